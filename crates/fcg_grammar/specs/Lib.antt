@@ -1,0 +1,5 @@
+pub mod Reading
+pub mod Rows
+pub mod Number
+pub mod Spell
+pub mod First

@@ -1,0 +1,5 @@
+pub mod Escapes
+pub mod Runs
+pub mod Found
+pub mod Breaks
+pub mod DescLaws

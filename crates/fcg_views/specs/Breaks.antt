@@ -1,0 +1,9 @@
+-- The order in which a class file is read: each definition of a part gives what is read there, or the first item of
+-- it that breaks its rule.
+pub mod Words
+pub mod Fault
+pub mod Number
+pub mod Groups
+pub mod Pool
+pub mod Members
+pub mod Class

@@ -1,0 +1,83 @@
+-- The class file (JVMS 4.1).
+use Rattle.std.specs.Prelude.{ℕ, ◌+◌, List, [], length, ◌&&◌, nat_le, nat_lt, Option, Some, None, Result, Ok, ◌==◌, if◌then◌else◌}
+use Rattle.fcg_grammar.specs.Reading.{◌>>=◌, unless_broken}
+use Rattle.fcg_grammar.specs.Rows.{rows}
+use Rattle.fcg_views.specs.declared.view.View.{View}
+use Rattle.fcg_views.specs.declared.view.Method.{Method}
+use Rattle.fcg_views.specs.declared.fault.ClassFault.{ClassFault}
+use Rattle.fcg_views.specs.declared.fault.ClassRule.TheVariants.{Magic, Version, EmptyName, Trailing, NotBuilt}
+use Rattle.fcg_views.specs.Breaks.Fault.{fault, at_place}
+use Rattle.fcg_views.specs.Breaks.Number.{u2_at, u4_at}
+use Rattle.fcg_views.specs.Breaks.Pool.{Entries, name_of, text_of, pool_at}
+use Rattle.fcg_views.specs.Breaks.Members.{attributes_at, methods_at}
+
+-- cafebabe, and a major version from 45 to 65 with any minor
+unfoldable pub header_kept : List ℕ → Result (Unit {0}) ClassFault
+header_kept bytes = do
+  magic ← u4_at bytes 0 0
+  begun ← unless_broken (magic == 0xcafebabe) (fault 0 0 Magic)
+  minor ← u2_at bytes 4 0
+  major ← u2_at bytes 6 0
+  unless_broken (nat_le 45 major && nat_le major 65) (fault 6 0 Version)
+
+-- the name of the type whose index stands at a place
+unfoldable pub type_at : Entries → ℕ → Result (List ℕ) ClassFault
+type_at pool at = do
+  index ← u2_at pool.bytes at 0
+  name ← at_place at index (name_of pool index >>= text_of pool)
+  filled ← unless_broken (nat_lt 0 (length name)) (fault at 0 EmptyName)
+  Ok name
+
+-- an index of 0 names no superclass
+unfoldable pub super_at : Entries → ℕ → Result (Option (List ℕ)) ClassFault
+super_at pool at = do
+  index ← u2_at pool.bytes at 0
+  if index == 0 then Ok None else (type_at pool at >>= λ name. Ok (Some name))
+
+unfoldable pub interface_at : Entries → ℕ → ℕ → Result (List ℕ × ℕ) ClassFault
+interface_at pool k at = type_at pool at >>= λ name. Ok (name, at + 2)
+
+-- the interfaces whose count stands at a place, and the place after them
+unfoldable pub interfaces_at : Entries → ℕ → Result (List (List ℕ) × ℕ) ClassFault
+interfaces_at pool at = do
+  count ← u2_at pool.bytes at 0
+  rows (interface_at pool) count 0 (at + 2)
+
+-- the flags of the type; a module isn't read yet
+unfoldable pub flags_at : Entries → ℕ → Result ℕ ClassFault
+flags_at pool at = do
+  flags ← u2_at pool.bytes at 0
+  type ← unless_broken (nat_lt flags 0x8000) (fault at 0 NotBuilt)
+  Ok flags
+
+-- the place after the fields, which aren't read yet
+unfoldable pub fields_at : Entries → ℕ → Result ℕ ClassFault
+fields_at pool at = do
+  count ← u2_at pool.bytes at 0
+  none ← unless_broken (count == 0) (fault at 0 NotBuilt)
+  Ok (at + 2)
+
+-- the methods, the class's attributes, and the end of the file
+unfoldable pub members_at : Entries → ℕ → Result (List Method) ClassFault
+members_at pool at = do
+  methods_begin ← fields_at pool at
+  methods ← methods_at pool methods_begin
+  after ← attributes_at pool methods.1
+  ended ← unless_broken (length pool.bytes == after) (fault after 0 Trailing)
+  Ok methods.0
+
+-- what stands after the pool
+unfoldable pub body_at : Entries → ℕ → Result View ClassFault
+body_at pool at = do
+  flags ← flags_at pool at
+  name ← type_at pool (at + 2)
+  super ← super_at pool (at + 4)
+  interfaces ← interfaces_at pool (at + 6)
+  methods ← members_at pool interfaces.1
+  Ok (record { name = name; flags = flags; superclass = super; interfaces = interfaces.0; fields = []; methods = methods })
+
+unfoldable pub class_of : List ℕ → Result View ClassFault
+class_of bytes = do
+  header ← header_kept bytes
+  pool ← pool_at bytes 8
+  body_at pool.0 pool.1

@@ -1,0 +1,97 @@
+-- Method descriptors (JVMS 4.3.3), with the length of an array and the units of the parameters bounded.
+use Rattle.std.specs.Prelude.{◌≡◌, ℕ, zero, suc, ◌+◌, ◌≤◌, ◌<◌, List, [], ◌∷◌, ◌++◌, length, take, ◌==◌, true, false, Option, Some, None}
+use Rattle.std.specs.List.{flat_map, AllByRecursion}
+use Rattle.fcg_views.specs.DescSteps.{is_letter, letter_units}
+
+-- a field type: a letter of BCDFIJSZ, a class, an array of one of these
+pub data Item : Type 0 where
+  Letter : ℕ → Item
+  Class : List ℕ → Item
+
+-- how many `[`, and what follows them
+pub record FieldType : Type 0 where
+  pub dims : ℕ
+  pub item : Item
+
+-- `V` is none
+pub record MethodType : Type 0 where
+  pub parameters : List FieldType
+  pub returned : Option FieldType
+
+abbrev pub brackets : ℕ → List ℕ
+brackets zero = []
+brackets (suc n) = 91 ∷ brackets n
+
+abbrev pub spell_item : Item → List ℕ
+spell_item (Letter c) = c ∷ []
+spell_item (Class name) = 76 ∷ name ++ 59 ∷ []
+
+abbrev pub spell_field : FieldType → List ℕ
+spell_field t = brackets t.dims ++ spell_item t.item
+
+abbrev pub spell_return : Option FieldType → List ℕ
+spell_return None = 86 ∷ []
+spell_return (Some t) = spell_field t
+
+abbrev pub spell : MethodType → List ℕ
+spell m = 40 ∷ flat_map spell_field m.parameters ++ 41 ∷ spell_return m.returned
+
+-- a letter is a base type's; a class has one or more bytes, none of them `;`
+abbrev pub IsItem : Item → Type 0
+IsItem (Letter c) = is_letter c ≡ true
+IsItem (Class name) = (0 < length name) × AllByRecursion (λ b. (b == 59) ≡ false) name
+
+abbrev pub IsFieldType : FieldType → Type 0
+IsFieldType t = (t.dims ≤ 255) × IsItem t.item
+
+-- J and D count two, where they are no elements of an array
+abbrev pub item_units : Item → ℕ
+item_units (Letter c) = letter_units c
+item_units (Class name) = 1
+
+abbrev pub units_with : ℕ → Item → ℕ
+units_with zero item = item_units item
+units_with (suc n) item = 1
+
+abbrev pub units_of : FieldType → ℕ
+units_of t = units_with t.dims t.item
+
+abbrev pub units : List FieldType → ℕ
+units [] = 0
+units (t ∷ ts) = units_of t + units ts
+
+abbrev pub IsReturn : Option FieldType → Type 0
+IsReturn None = Unit {0}
+IsReturn (Some t) = IsFieldType t
+
+pub record IsMethodType (m : MethodType) : Type 0 where
+  pub parameters : AllByRecursion IsFieldType m.parameters
+  pub few : units m.parameters ≤ 255
+  pub returned : IsReturn m.returned
+
+-- the first n bytes are the front of some method descriptor
+pub record IsFront (text : List ℕ) (n : ℕ) : Type 0 where
+  pub type : MethodType
+  pub kept : IsMethodType type
+  pub rest : List ℕ
+  pub front : spell type ≡ take n text ++ rest
+
+-- no descriptor, and the longest such front
+pub record BreaksAt (text : List ℕ) (n : ℕ) : Type 0 where
+  pub within : n ≤ length text
+  pub front : IsFront text n
+  pub longest : (k : ℕ) → n < k → k ≤ length text → IsFront text k → ⊥
+  pub none : (m : MethodType) → IsMethodType m → spell m ≡ text → ⊥
+
+-- what a descriptor's reader tells
+pub record Spans (text : List ℕ) (parameters unit_count result_at : ℕ) : Type 0 where
+  pub type : MethodType
+  pub kept : IsMethodType type
+  pub spelled : spell type ≡ text
+  pub parameters_are : parameters ≡ length type.parameters
+  pub units_are : unit_count ≡ units type.parameters
+  pub result_at_is : result_at ≡ 2 + length (flat_map spell_field type.parameters)
+
+-- the text is a method descriptor
+abbrev pub IsDescriptor : List ℕ → Type 0
+IsDescriptor text = (type : MethodType) × IsMethodType type × (spell type ≡ text)

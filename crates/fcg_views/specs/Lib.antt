@@ -1,0 +1,9 @@
+pub mod Escape
+pub mod Place
+pub mod Descriptor
+pub mod DescSteps
+pub mod ClassFile
+pub mod Reads
+pub mod Breaks
+pub mod Valid
+pub mod DescBounds

@@ -1,0 +1,59 @@
+//! Names in the texts that are printed.
+ghost use Rattle.std.specs.Prelude.{◌≡◌, ◌++◌, OnOk, OnErr, IfOk, string_bytes};
+ghost use Rattle.fcg_views.specs.Escape.{escaped};
+
+use crate::items::Bytes;
+use crate::memory::NoMemory;
+use percent_encoding::{AsciiSet, NON_ALPHANUMERIC, ascii_set, percent_encode};
+use std::alloc::{AllocError, Global};
+
+/// What a name is in the text that it stands in: this says which bytes stand as they are. Letters, digits, `_`, `-`
+/// and `$` always do.
+#[derive(Clone, Copy, Debug, PartialEq, Eq)]
+pub enum Place {
+    /// The name of a type, in which `/` stands too.
+    Class,
+    /// The name of a method or a field.
+    Member,
+    /// A descriptor, in which `/` `(` `)` `;` `[` stand too.
+    Desc,
+}
+
+const MEMBER: AsciiSet = ascii_set!(NON_ALPHANUMERIC.remove(b'_').remove(b'-').remove(b'$'));
+
+const CLASS: AsciiSet = ascii_set!(MEMBER.remove(b'/'));
+
+const DESC: AsciiSet = ascii_set!(CLASS.remove(b'(').remove(b')').remove(b';').remove(b'['));
+
+impl Place {
+    ghost use Rattle.fcg_views.specs.Place.{set_of};
+
+    // The bytes that are escaped there.
+    fn set(self) -> AsciiSet
+        ensures { result ≡ set_of self }
+    {
+        match self {
+            Place::Class => CLASS,
+            Place::Member => MEMBER,
+            Place::Desc => DESC,
+        }
+    }
+}
+
+/// Adds a name to a text. Each byte that may not stand is `%` and two upper-case hexadecimal digits. Takes the time
+/// of one pass over the name. After an `Err` the text is as it was.
+pub fn push_escaped(out: &mut String, bytes: &[u8], place: Place) -> Result<(), AllocError>
+    ensures ok { OnOk result (string_bytes out.new ≡ string_bytes out.old ++ escaped place bytes.now) }
+    ensures err { OnErr result (string_bytes out.new ≡ string_bytes out.old) }
+{
+    percent_encode(bytes, place.set()).append_to(out)
+}
+
+/// The text of a name, as `push_escaped` adds it.
+pub fn escape(alloc: Global, bytes: &[u8], place: Place) -> Result<Bytes, NoMemory>
+    ensures { IfOk result (λ text. text ≡ escaped place bytes.now) }
+{
+    let mut text = String::new(alloc);
+    push_escaped(&mut text, bytes, place)?;
+    Ok(Bytes::from(text.into_bytes()))
+}

@@ -1,0 +1,22 @@
+//! The values that every layer speaks of: names, views of class files, and lists of them. In specs/ stand the public
+//! definitions: what a class file is and which first fault other bytes have, what a method descriptor is, and how
+//! names are escaped. The crate stands on the words of formats alone.
+#![tactic(auto)]
+
+mod descriptor;
+mod entry;
+mod escaping;
+mod fault;
+mod items;
+mod memory;
+mod name;
+mod view;
+
+pub use descriptor::{DescState, scan_text};
+pub use entry::{Entry, Placed};
+pub use escaping::{Place, escape, push_escaped};
+pub use fault::{ClassFault, ClassRule, at_index, fault_at};
+pub use items::{Bytes, Fields, Items, Methods, Names, Sites, Views};
+pub use memory::NoMemory;
+pub use name::Name;
+pub use view::{Field, HandleKind, Method, Ref, Site, SiteKind, View};

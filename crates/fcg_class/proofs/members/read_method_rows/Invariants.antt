@@ -1,0 +1,12 @@
+use Rattle.std.proofs.Common.{◌≡◌, ◌-◌, ◌≤◌, length, []}
+use Rattle.fcg_grammar.specs.Rows.{rows}
+use Rattle.fcg_grammar.proofs.RowLemmas.{with_front}
+use Rattle.fcg_views.specs.Breaks.Members.{method_at}
+use Rattle.fcg_class.specs.Members.{begun}
+use Rattle.fcg_class.proofs.members.read_method_rows.Given as goal
+
+abbrev pub invariant-loop : goal.invariant-loop
+invariant-loop l =
+    (with_front l.table (rows (method_at l.names) (l.count - l.counter) l.counter (begun l.place l.table)) ≡ rows (method_at l.fn.names) l.count 0 (begun l.at []))
+    × (l.place ≤ length l.names.bytes)
+    × (l.names ≡ l.fn.names)

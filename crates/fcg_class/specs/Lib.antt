@@ -1,0 +1,4 @@
+pub mod Pool
+pub mod Names
+pub mod Methods
+pub mod Members

@@ -1,0 +1,25 @@
+-- What the reader of methods answers.
+use Rattle.std.specs.Prelude.{◌≡◌, ℕ, List, [], ◌∷◌, ◌++◌, Result, Ok, Err}
+use Rattle.fcg_grammar.specs.declared.error.ReadError.{ReadError}
+use Rattle.fcg_grammar.specs.Reading.{Fails}
+use Rattle.fcg_views.specs.declared.view.Method.{Method}
+use Rattle.fcg_views.specs.declared.fault.ClassFault.{ClassFault}
+use Rattle.fcg_views.specs.Breaks.Pool.{Entries, text_of}
+use Rattle.fcg_views.specs.Breaks.Members.{Begun}
+use Rattle.fcg_class.specs.declared.members.Declared.{Declared}
+
+-- the method that a row declares
+abbrev pub method_of : Declared → Method
+method_of d = record { name = d.name.bytes.now; desc = d.desc.bytes.now; flags = d.flags; sites = [] }
+
+-- its texts are those of their indexes
+abbrev pub AreTextsOf : Entries → Declared → Type 0
+AreTextsOf pool d = (text_of pool d.name.index ≡ Ok d.name.bytes.now) × (text_of pool d.desc.index ≡ Ok d.desc.bytes.now)
+
+abbrev pub begun : ℕ → List Method → Begun
+begun at methods = record { at = at; earlier = methods }
+
+-- a method more, and the place after it; or the fault
+abbrev pub GivesNext : Result ℕ (ReadError ClassFault) → List Method → List Method → Result (Method × Begun) ClassFault → Type 0
+GivesNext (Ok after) old new read = (m : Method) × (new ≡ old ++ m ∷ []) × (read ≡ Ok (m, begun after new))
+GivesNext (Err e) old new read = Fails e read

@@ -1,0 +1,13 @@
+//! Readers of class files and of bundles of them. They answer exactly what the definitions of fcg_views and of
+//! specs/ give: the views of a bundle's class files, or its fault. The crate stands on the words of formats and on
+//! the values that every layer speaks of.
+#![tactic(auto)]
+
+mod class;
+mod groups;
+mod members;
+mod methods;
+mod names;
+mod number;
+mod pool;
+mod text;

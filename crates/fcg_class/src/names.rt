@@ -1,0 +1,85 @@
+//! The names of a class file, each made once.
+ghost use Rattle.std.specs.Prelude.{◌≡◌, Ok, IfOk, None, option_copied, slice_index_or};
+ghost use Rattle.fcg_views.specs.Breaks.Pool.{text_of};
+ghost use Rattle.fcg_class.specs.Names.{AllWithoutName};
+
+use crate::pool::Pool;
+use crate::text::Text;
+use fcg_views::{Name, NoMemory};
+use std::alloc::{AllocError, Global};
+use std::marker::Model;
+
+/// The constant pool of a class file, with the names that were made of its texts: one a Utf8, however often it is
+/// used.
+#[derive(Drop)]
+pub struct ClassNames<'a> {
+    pool: &'a Pool<'a>,
+    // by the index of the Utf8
+    made: Vec<Option<Name>>,
+}
+
+impl<'a> Model for ClassNames<'a> {
+    ghost use Rattle.fcg_views.specs.Breaks.Pool.{Entries};
+    ghost use Rattle.fcg_class.specs.Names.{AreNames};
+
+    ghost Value = { Entries };
+
+    ghost view = { λ n. n.pool.now };
+
+    ghost invariant = { λ n. AreNames n.pool.now n.made.items };
+}
+
+impl<'a> ClassNames<'a> {
+    /// No name is made yet.
+    pub fn new(alloc: Global, pool: &'a Pool<'a>) -> Result<ClassNames<'a>, AllocError>
+        ensures { IfOk result (λ names. names ≡ pool.now) }
+    {
+        let made = unmade(alloc, pool.len() + 1)?;
+        Ok(ClassNames { pool, made })
+    }
+
+    /// The constant pool.
+    pub fn pool(&self) -> &'a Pool<'a>
+        ensures { result.now ≡ self.now }
+    {
+        self.pool
+    }
+
+    /// The name of a text.
+    pub fn name(&mut self, alloc: Global, text: &Text<'_>) -> Result<Name, NoMemory>
+        requires { text_of self.old text.now.index ≡ Ok text.now.bytes.now }
+        ensures ok { IfOk result (λ name. name ≡ text.now.bytes.now) }
+        ensures same { self.new ≡ self.old }
+    {
+        if let Some(name) = find_made(&self.made, text.index) {
+            return Ok(name.clone()?);
+        }
+        let name = Name::from_slice(alloc, text.bytes)?;
+        let copy = name.clone()?;
+        if let Some(slot) = self.made.get_mut(usize::from(text.index)) {
+            *slot = Some(copy);
+        }
+        Ok(name)
+    }
+}
+
+// So many places without a name.
+fn unmade(alloc: Global, count: usize) -> Result<Vec<Option<Name>>, AllocError>
+    ensures { IfOk result (λ made. AllWithoutName made.items) }
+{
+    let mut made = Vec::with_capacity(alloc, count)?;
+    for _ in 0..count {
+        made.push(None)?;
+    }
+    Ok(made)
+}
+
+// The name that was made at an index.
+fn find_made(made: &[Option<Name>], index: u16) -> Option<&Name>
+    ensures { option_copied result ≡ slice_index_or made.now index None }
+{
+    match made.get(usize::from(index)) {
+        Some(Some(name)) => Some(name),
+        _ => None,
+    }
+}

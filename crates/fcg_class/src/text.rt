@@ -1,0 +1,47 @@
+//! Texts that the items of a class file name.
+ghost use Rattle.std.specs.Prelude.{◌≡◌, ◌≤◌, ◌+◌, length, Ok, OnOk, IfOk};
+ghost use Rattle.fcg_grammar.specs.Reading.{seen};
+ghost use Rattle.fcg_views.specs.Breaks.Pool.{text_of};
+ghost use Rattle.fcg_views.specs.Breaks.Members.{text_at};
+ghost use Rattle.fcg_views.specs.Breaks.Class.{type_at};
+
+use crate::number::read_u2;
+use crate::pool::Pool;
+use fcg_views::{ClassFault, ClassRule, at_index, fault_at};
+
+/// The text of a Utf8, and its index in the pool.
+#[derive(Clone, Copy)]
+pub struct Text<'a> {
+    pub index: u16,
+    pub bytes: &'a [u8],
+}
+
+/// The text whose index stands at a place.
+#[tactic(auto, unfolding(fcg_views::specs::Breaks::Members::text_at))]
+pub fn find_text<'a>(pool: &Pool<'a>, at: usize) -> Result<Text<'a>, ClassFault>
+    requires { at ≤ length pool.now.bytes }
+    ensures value { seen (λ text. text.bytes.now) result ≡ text_at pool.now at }
+    ensures named { IfOk result (λ text. text_of pool.now text.index ≡ Ok text.bytes.now) }
+    ensures inside { OnOk result (at + 2 ≤ length pool.now.bytes) }
+{
+    let index = read_u2(pool.bytes(), at, 0)?;
+    let bytes = at_index(at, index, pool.text(index))?;
+    Ok(Text { index, bytes })
+}
+
+/// The name of the type whose index stands at a place, which has a byte or more.
+#[tactic(auto, unfolding(fcg_views::specs::Breaks::Class::type_at))]
+pub fn find_type<'a>(pool: &Pool<'a>, at: usize) -> Result<Text<'a>, ClassFault>
+    requires { at ≤ length pool.now.bytes }
+    ensures value { seen (λ text. text.bytes.now) result ≡ type_at pool.now at }
+    ensures named { IfOk result (λ text. text_of pool.now text.index ≡ Ok text.bytes.now) }
+    ensures inside { OnOk result (at + 2 ≤ length pool.now.bytes) }
+{
+    let class = read_u2(pool.bytes(), at, 0)?;
+    let index = at_index(at, class, pool.name_index(class))?;
+    let bytes = at_index(at, class, pool.text(index))?;
+    if bytes.is_empty() {
+        return Err(fault_at(at, 0, ClassRule::EmptyName));
+    }
+    Ok(Text { index, bytes })
+}

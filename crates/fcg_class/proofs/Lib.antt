@@ -1,3 +1,6 @@
 pub mod GroupLemmas
 pub mod NameLemmas
 pub mod MethodLemmas
+pub mod PathLemmas
+pub mod EntryLemmas
+pub mod JarLemmas

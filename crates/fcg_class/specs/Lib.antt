@@ -2,3 +2,6 @@ pub mod Pool
 pub mod Names
 pub mod Methods
 pub mod Members
+pub mod Path
+pub mod Bundle
+pub mod Entries

@@ -198,7 +198,7 @@ fn read_body(
 
 // The view of a class file, or its first fault.
 #[tactic(auto, unfolding(fcg_views::specs::Breaks::Class::class_of))]
-fn read_whole(alloc: Global, bytes: &[u8]) -> Result<View, ReadError<ClassFault>>
+pub fn read_class(alloc: Global, bytes: &[u8]) -> Result<View, ReadError<ClassFault>>
     ensures { Gives (λ view. view) result (class_of bytes.now) }
 {
     read_header(bytes)?;

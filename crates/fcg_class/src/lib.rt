@@ -3,11 +3,15 @@
 //! the values that every layer speaks of.
 #![tactic(auto)]
 
+mod bundle;
 mod class;
 mod groups;
 mod members;
 mod methods;
 mod names;
 mod number;
+mod path;
 mod pool;
 mod text;
+
+pub use bundle::BundleFault;

@@ -1,0 +1,42 @@
+-- What the reader of a bundle's entries answers.
+use Rattle.std.specs.Prelude.{◌≡◌, ℕ, List, [], ◌∷◌, ◌++◌, nat_eq, Result, Ok, Err}
+use Rattle.std.specs.Borrow.{Bor}
+use Rattle.std.specs.List.{list_any}
+use Rattle.std.specs.Ordering.{nat_cmp}
+use Rattle.std.specs.declared.cmp.Ordering.{Ordering}
+use Rattle.std.specs.Cmp.Lexicographic.{slice_cmp}
+use Rattle.std.specs.BTreeSet as tree
+use Rattle.std.specs.BTreeSet.{BTreeSet}
+use Rattle.fcg_grammar.specs.declared.error.ReadError.{ReadError}
+use Rattle.fcg_grammar.specs.declared.error.ReadError.TheVariants as errors
+use Rattle.fcg_grammar.specs.Reading.{Fails}
+use Rattle.fcg_views.specs.declared.view.View.{View}
+use Rattle.fcg_views.specs.declared.fault.ClassFault.{ClassFault}
+use Rattle.fcg_class.specs.declared.bundle.BundleFault.{BundleFault}
+use Rattle.fcg_class.specs.declared.bundle.BundleFault.TheVariants.{NotBuilt}
+use Rattle.fcg_class.specs.Bundle.{Begun, is_same}
+
+abbrev pub path_cmp : Bor (List ℕ) → Bor (List ℕ) → Ordering
+path_cmp x y = slice_cmp nat_cmp x.now y.now
+
+-- the set has these paths, and no others
+abbrev pub ArePaths : BTreeSet (Bor (List ℕ)) → List (List ℕ) → Type 0
+ArePaths set paths = (p : Bor (List ℕ)) → tree.contains path_cmp set p ≡ list_any (λ q. is_same q p.now) paths
+
+abbrev pub begun : ℕ → List (List ℕ) → Begun
+begun at paths = record { at = at; paths = paths }
+
+-- a view more, and the place after its entry, whose path is in the set; or the fault
+abbrev pub GivesEntry : Result (View × ℕ) (ReadError BundleFault) → BTreeSet (Bor (List ℕ)) → List (List ℕ) → Result (View × Begun) BundleFault → Type 0
+GivesEntry (Ok x) set paths read = (path : List ℕ) × ArePaths set (paths ++ path ∷ []) × (read ≡ Ok (x.0, begun x.1 (paths ++ path ∷ [])))
+GivesEntry (Err e) set paths read = Fails e read
+
+-- the fault of a bundle in which a class file is broken
+abbrev pub told : ReadError ClassFault → ReadError BundleFault
+told errors.NoMemory = errors.NoMemory
+told (errors.Fault f) = errors.Fault NotBuilt
+
+-- The views of some entries, and the place after them, whatever their paths; or the fault.
+abbrev pub GivesEntries : Result (List View × ℕ) (ReadError BundleFault) → Result (List View × Begun) BundleFault → Type 0
+GivesEntries (Ok x) read = (paths : List (List ℕ)) × (read ≡ Ok (x.0, begun x.1 paths))
+GivesEntries (Err e) read = Fails e read

@@ -1,4 +1,3 @@
-pub mod GroupLemmas
 pub mod NameLemmas
 pub mod MethodLemmas
 pub mod PathLemmas

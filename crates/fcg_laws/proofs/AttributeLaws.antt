@@ -1,0 +1,115 @@
+-- Attributes that are passed over: what is read is spelled so, and what is spelled so is read.
+use Rattle.std.proofs.Common.{◌≡◌, ℕ, ◌+◌, ◌^◌, ◌<◌, ◌≤◌, List, [], ◌∷◌, ◌++◌, length, refl, sym, ap, subst, arith}
+use Rattle.std.specs.Prelude.{Ok}
+use Rattle.std.specs.List.{flat_map, AllByRecursion, AllZip}
+use Rattle.std.proofs.lemmas.List.{append-nil}
+use Rattle.fcg_grammar.specs.Reading.{unless_broken}
+use Rattle.fcg_grammar.specs.Rows.{rows}
+use Rattle.fcg_grammar.specs.Spell.{IsBytes, u2, u4}
+use Rattle.fcg_grammar.proofs.LawLemmas.{bind_ok, kept_ok}
+use Rattle.fcg_grammar.proofs.Standing.{Stands, Stands-then, Stands-to, ok_is}
+use Rattle.fcg_grammar.proofs.RowLaws.{FoundRow, ReadRow, rows_found, rows_only}
+use Rattle.fcg_views.specs.declared.fault.ClassRule.TheVariants.{NotBuilt}
+use Rattle.fcg_views.specs.ClassFile.{Attribute, attribute}
+use Rattle.fcg_views.specs.Reads.{NamesUtf8, IsPassed, ArePassed}
+use Rattle.fcg_views.specs.Breaks.Words.{is_passed}
+use Rattle.fcg_views.specs.Breaks.Fault.{fault}
+use Rattle.fcg_views.specs.Breaks.Number.{u2_at, u4_at, part_at}
+use Rattle.fcg_views.specs.Breaks.Pool.{Entries, text_of}
+use Rattle.fcg_views.specs.Breaks.Members.{text_at, attribute_at, attributes_at}
+use Rattle.fcg_laws.proofs.Places.{u2_found, u2_only, u4_found, u4_only, part_found, part_only, closed, opened}
+use Rattle.fcg_laws.specs.Meaning.{table_of}
+use Rattle.fcg_laws.proofs.NameLaws.{text_found, text_only, at_ok}
+
+-- what holds of each row
+zip_left : {C X : Type 0} (R : C → X → Type 0) (P : C → Type 0) → ((c : C) (x : X) → R c x → P c) → (cs : List C) (xs : List X) → AllZip R cs xs → AllByRecursion P cs
+zip_left R P h [] xs z = tt
+zip_left R P h (c ∷ cs) [] z = absurd z
+zip_left R P h (c ∷ cs) (x ∷ xs) z = (h c x z.0, zip_left R P h cs xs z.1)
+
+pub six : (at : ℕ) → at + 2 + 4 ≡ at + 6
+six at = omega arith
+
+module _ (pool : Entries) (fits : IsBytes pool.bytes) where
+  pub record FoundText (at : ℕ) (text : List ℕ) : Type 0 where
+    pub index : ℕ
+    pub few : index < 2 ^ 16
+    pub stands : Stands pool.bytes at (u2 index) (at + 2)
+    pub named : NamesUtf8 (table_of pool) index text
+
+  pub text_at_found : (at : ℕ) (text : List ℕ) → text_at pool at ≡ Ok text → FoundText at text
+  unfolding text_at
+  text_at_found at text e =
+      let a = bind_ok (u2_at pool.bytes at 0) _ text e in
+      let n = u2_found pool.bytes at 0 a.0 fits a.1 in
+      record { index = a.0; few = n.1; stands = n.0; named = text_found pool a.0 text (at_ok at a.0 (text_of pool a.0) text a.2) }
+
+  pub text_at_only : (at index : ℕ) (text rest : List ℕ) (after : ℕ) → index < 2 ^ 16 → NamesUtf8 (table_of pool) index text → Stands pool.bytes at (u2 index ++ rest) after → (text_at pool at ≡ Ok text) × Stands pool.bytes (at + 2) rest after
+  unfolding text_at
+  text_at_only at index text rest after few named s =
+      let n = u2_only pool.bytes at 0 index rest after few s in
+      let t = text_only pool index text named in
+      (rw (n.0, t) refl, n.1)
+
+  abbrev Passes : Attribute → Unit {0} → Type 0
+  Passes a u = IsPassed (table_of pool) a
+
+  attribute_found : (k at : ℕ) (x : Unit {0} × ℕ) → at ≤ length pool.bytes → attribute_at pool k at ≡ Ok x → FoundRow pool.bytes attribute Passes (attribute_at pool) at x.0 x.1
+  unfolding attribute_at
+  attribute_found k at x le e =
+      let a = bind_ok (text_at pool at) _ x e in
+      let b = bind_ok (unless_broken (is_passed a.0) (fault at 0 NotBuilt)) _ x a.2 in
+      let c = bind_ok (u4_at pool.bytes (at + 2) 0) _ x b.2 in
+      let d = bind_ok (part_at pool.bytes (at + 6) c.0 0) _ x c.2 in
+      let name = text_at_found at a.0 a.1 in
+      let n = u4_found pool.bytes (at + 2) 0 c.0 fits c.1 in
+      let content = part_found pool.bytes (at + 6) c.0 0 d.0 d.1 in
+      let s0 = Stands-to (at + 6) (six at) n.0 in
+      let s1 = subst (λ (m : ℕ). Stands pool.bytes (at + 2) (u4 m ++ d.0) (at + 6 + c.0)) (sym content.1) (Stands-then s0 content.0) in
+      let whole = closed (u2 name.index ++ u4 (length d.0)) d.0 (Stands-then name.stands s1) in
+      subst (λ (y : Unit {0} × ℕ). FoundRow pool.bytes attribute Passes (attribute_at pool) at y.0 y.1) (ok_is _ x d.2) (record {
+        row = record { name = name.index; content = d.0 };
+        stands = whole;
+        meant = record { name = a.0; index = name.few; named = name.named; passed = kept_ok _ _ b.0 b.1; fits = omega (arith, content.1, n.1) };
+      })
+
+  attribute_only : (k at : ℕ) (a : Attribute) (rest : List ℕ) (after : ℕ) → IsPassed (table_of pool) a → Stands pool.bytes at (attribute a ++ rest) after → ReadRow pool.bytes attribute Passes (attribute_at pool) k at a
+  unfolding attribute_at
+  attribute_only k at a rest after is s =
+      let here = opened (u2 a.name ++ u4 (length a.content)) a.content rest s in
+      let n = text_at_only at a.name is.name (u4 (length a.content) ++ (a.content ++ rest)) after is.index is.named here in
+      let m = u4_only pool.bytes (at + 2) 0 (length a.content) (a.content ++ rest) after is.fits n.1 in
+      let s6 = subst (λ (p : ℕ). Stands pool.bytes p (a.content ++ rest) after) (six at) m.1 in
+      let c = part_only pool.bytes (at + 6) 0 a.content rest after s6 in
+      let ends : at + 6 + length a.content ≡ at + length (attribute a) = omega (arith, ap length (append-nil a.content)) in
+      record { value = tt; read_is = rw (n.0, is.passed, m.0, c.0, ends) refl; meant = is }
+
+  pub record FoundAttributes (at after : ℕ) : Type 0 where
+    pub table : List Attribute
+    pub stands : Stands pool.bytes at (u2 (length table) ++ flat_map attribute table) after
+    pub passed : ArePassed (table_of pool) table
+
+  pub attributes_found : (at after : ℕ) → attributes_at pool at ≡ Ok after → FoundAttributes at after
+  unfolding attributes_at
+  attributes_found at after e =
+      let a = bind_ok (u2_at pool.bytes at 0) _ after e in
+      let b = bind_ok (rows (attribute_at pool) a.0 0 (at + 2)) _ after a.2 in
+      let n = u2_found pool.bytes at 0 a.0 fits a.1 in
+      let r = rows_found pool.bytes attribute Passes (attribute_at pool) attribute_found a.0 0 (at + 2) b.0 n.0.within b.1 in
+      subst (λ (y : ℕ). FoundAttributes at y) (ok_is b.0.1 after b.2) (record {
+        table = r.table;
+        stands = subst (λ (k : ℕ). Stands pool.bytes at (u2 k ++ flat_map attribute r.table) b.0.1) (sym r.many) (Stands-then n.0 r.stands);
+        passed = record { few = omega (arith, r.many, n.1); each = zip_left Passes (IsPassed (table_of pool)) (λ a x h. h) r.table b.0.0 r.meant };
+      })
+
+  pub record ReadAttributes (at : ℕ) (rest : List ℕ) (after : ℕ) : Type 0 where
+    pub end : ℕ
+    pub read_is : attributes_at pool at ≡ Ok end
+    pub stands : Stands pool.bytes end rest after
+
+  pub attributes_only : (at : ℕ) (table : List Attribute) (rest : List ℕ) (after : ℕ) → ArePassed (table_of pool) table → Stands pool.bytes at (u2 (length table) ++ (flat_map attribute table ++ rest)) after → ReadAttributes at rest after
+  unfolding attributes_at
+  attributes_only at table rest after are s =
+      let n = u2_only pool.bytes at 0 (length table) (flat_map attribute table ++ rest) after are.few s in
+      let r = rows_only pool.bytes attribute Passes (attribute_at pool) (IsPassed (table_of pool)) attribute_only 0 (at + 2) table rest after are.each n.1 in
+      record { end = r.end; read_is = rw (n.0, r.read_is) refl; stands = r.stands }

@@ -1,0 +1,160 @@
+-- The class file: what is read is spelled so, and what is spelled so is read. So it has one view, or one first fault.
+use Rattle.std.proofs.Common.{◌≡◌, ℕ, zero, suc, ◌+◌, ◌^◌, ◌≤◌, ◌<◌, true, eqb, leb, ◌&&◌, List, [], ◌∷◌, ◌++◌, length, Some, refl, sym, subst, ◌∙◌, arith}
+use Rattle.std.specs.Prelude.{Result, Ok, Err, IfOk}
+use Rattle.std.specs.List.{flat_map}
+use Rattle.std.proofs.lemmas.Bool.{eqb-true, and_parts}
+use Rattle.std.proofs.lemmas.Bool.Decides.{nat_tests}
+use Rattle.fcg_grammar.specs.declared.error.ReadError.{ReadError}
+use Rattle.fcg_grammar.specs.Reading.{unless_broken, Gives}
+use Rattle.fcg_grammar.specs.Spell.{IsBytes, u2, u4}
+use Rattle.fcg_grammar.proofs.LawLemmas.{bind_ok, kept_ok, err_is, ok_or_err}
+use Rattle.fcg_grammar.proofs.Standing.{Stands, Stands-then, ok_is, whole_is, is_whole}
+use Rattle.fcg_views.specs.declared.view.View.{View}
+use Rattle.fcg_views.specs.declared.fault.ClassFault.{ClassFault}
+use Rattle.fcg_views.specs.declared.fault.ClassRule.TheVariants.{Magic}
+use Rattle.fcg_views.specs.ClassFile.{Constant, Class, constant, ClassFile, spelling}
+use Rattle.fcg_views.specs.Reads.{constant_at, IsViewOf, Reads, Verdict, IsRead, IsBroken}
+use Rattle.fcg_views.specs.Breaks.Fault.{fault}
+use Rattle.fcg_views.specs.Breaks.Number.{u2_at, u4_at}
+use Rattle.fcg_views.specs.Breaks.Pool.{Entries, pool_at}
+use Rattle.fcg_views.specs.Breaks.Class.{header_kept, body_at, class_of}
+use Rattle.fcg_laws.proofs.Places.{u2_found, u2_only, u4_found, u4_only}
+use Rattle.fcg_laws.specs.Meaning.{table_of}
+use Rattle.fcg_laws.proofs.NameLaws.{FoundPool, pool_found, pool_only}
+use Rattle.fcg_laws.proofs.BodyLaws.{body_text, IsBody, FoundBody, body_found, body_only}
+
+at_least : (m n : ℕ) → leb m n ≡ true → m ≤ n
+at_least m n e = grind (arith, nat_tests)
+
+record FoundHeader (bytes : List ℕ) : Type 0 where
+  minor : ℕ
+  major : ℕ
+  stands : Stands bytes 0 (u4 0xcafebabe ++ (u2 minor ++ u2 major)) 8
+  few : minor < 2 ^ 16
+  from : 45 ≤ major
+  to : major ≤ 65
+
+header_found : (bytes : List ℕ) → IsBytes bytes → (u : Unit {0}) → header_kept bytes ≡ Ok u → FoundHeader bytes
+unfolding header_kept
+header_found bytes fits u e =
+    let a = bind_ok (u4_at bytes 0 0) _ u e in
+    let b = bind_ok (unless_broken (eqb a.0 0xcafebabe) (fault 0 0 Magic)) _ u a.2 in
+    let c = bind_ok (u2_at bytes 4 0) _ u b.2 in
+    let d = bind_ok (u2_at bytes 6 0) _ u c.2 in
+    let magic : a.0 ≡ 0xcafebabe = eqb-true _ _ (kept_ok _ _ b.0 b.1) in
+    let s0 = subst (λ (n : ℕ). Stands bytes 0 (u4 n) 4) magic (u4_found bytes 0 0 a.0 fits a.1).0 in
+    let minor = u2_found bytes 4 0 c.0 fits c.1 in
+    let major = u2_found bytes 6 0 d.0 fits d.1 in
+    let version = and_parts (leb 45 d.0) (leb d.0 65) (kept_ok _ _ u d.2) in
+    record { minor = c.0; major = d.0; stands = Stands-then s0 (Stands-then minor.0 major.0); few = minor.1; from = at_least 45 d.0 version.0; to = at_least d.0 65 version.1 }
+
+header_only : (bytes : List ℕ) (minor major : ℕ) (rest : List ℕ) (after : ℕ) → minor < 2 ^ 16 → 45 ≤ major → major ≤ 65 → Stands bytes 0 (u4 0xcafebabe ++ (u2 minor ++ (u2 major ++ rest))) after → (header_kept bytes ≡ Ok tt) × Stands bytes 8 rest after
+unfolding header_kept
+header_only bytes minor major rest after few from to s =
+    let a = u4_only bytes 0 0 0xcafebabe (u2 minor ++ (u2 major ++ rest)) after (omega arith) s in
+    let b = u2_only bytes 4 0 minor (u2 major ++ rest) after few a.1 in
+    let c = u2_only bytes 6 0 major rest after (omega arith) b.1 in
+    let version : (leb 45 major && leb major 65) ≡ true = grind (arith, nat_tests) in
+    (rw (a.0, b.0, c.0, version) refl, c.1)
+
+-- no index names anything in an empty pool
+some_constant : (cs : List Constant) (i : ℕ) (c : Constant) → constant_at cs i ≡ Some c → 0 < length cs
+some_constant [] zero c e = absurd cc
+some_constant [] (suc i) c e = absurd cc
+some_constant (d ∷ cs) i c e = omega arith
+
+assembled : (bytes : List ℕ) (pool : Entries) (fits : IsBytes pool.bytes) (after : ℕ) (v : View) → FoundHeader bytes → FoundPool bytes 8 pool after → FoundBody pool fits after v → Reads bytes v
+assembled bytes pool fits after v header p found =
+    let table : List Constant = table_of pool in
+    let body = found.body in
+    let some = some_constant table found.this (Class body.name.1.0) body.name.1.1 in
+    let count : p.count ≡ 1 + length table = omega (arith, p.many) in
+    let rest = subst (λ (x : List ℕ). Stands x after (body_text found.flags found.this found.super found.interfaces found.methods found.attributes) (length x)) p.bytes_are found.stands in
+    let pool_stands = subst (λ (n : ℕ). Stands bytes 8 (u2 n ++ flat_map constant table) after) count p.stands in
+    record {
+      file = record { minor = header.minor; major = header.major; pool = table; flags = found.flags; this = found.this; super = found.super; interfaces = found.interfaces; methods = found.methods; attributes = found.attributes };
+      spelled = whole_is bytes _ (Stands-then header.stands (Stands-then pool_stands rest));
+      view = record {
+        minor = header.few;
+        from = header.from;
+        to = header.to;
+        pool = record { few = omega (arith, count, p.few); fit = p.fit; named = p.named };
+        type = body.type;
+        flags = body.flags_are;
+        name = body.name;
+        super = body.super_is;
+        few_interfaces = body.few_interfaces;
+        interfaces = body.interfaces_are;
+        fields = body.fields;
+        few_methods = body.few_methods;
+        methods = body.methods_are;
+        distinct = body.distinct;
+        attributes = body.passed;
+      };
+    }
+
+-- what is read is a class file with that view
+pub class_found : (bytes : List ℕ) (v : View) → IsBytes bytes → class_of bytes ≡ Ok v → Reads bytes v
+unfolding class_of
+class_found bytes v fits e =
+    let a = bind_ok (header_kept bytes) _ v e in
+    let b = bind_ok (pool_at bytes 8) _ v a.2 in
+    let header = header_found bytes fits a.0 a.1 in
+    let pool = pool_found bytes fits 8 b.0 b.1 in
+    let fits1 = subst (λ (x : List ℕ). IsBytes x) (sym pool.bytes_are) fits in
+    assembled bytes b.0.0 fits1 b.0.1 v header pool (body_found b.0.0 fits1 b.0.1 v b.2)
+
+abbrev text_of_body : ClassFile → List ℕ
+text_of_body c = body_text c.flags c.this c.super c.interfaces c.methods c.attributes
+
+abbrev IsBodyOf : List Constant → ClassFile → View → Type 0
+IsBodyOf cs c v = IsBody cs c.flags c.this c.super c.interfaces c.methods c.attributes v
+
+body_of : (c : ClassFile) (v : View) → IsViewOf c v → IsBodyOf c.pool c v
+body_of c v is = record {
+  type = is.type;
+  flags_are = is.flags;
+  name = is.name;
+  super_is = is.super;
+  few_interfaces = is.few_interfaces;
+  interfaces_are = is.interfaces;
+  fields = is.fields;
+  few_methods = is.few_methods;
+  methods_are = is.methods;
+  distinct = is.distinct;
+  passed = is.attributes;
+}
+
+-- the body, by the pool that was read
+body_again : (bytes : List ℕ) → IsBytes bytes → (c : ClassFile) (v : View) (pool : Entries) (end : ℕ) → pool.bytes ≡ bytes → table_of pool ≡ c.pool → IsViewOf c v → Stands bytes end (text_of_body c) (length bytes) → body_at pool end ≡ Ok v
+body_again bytes fits c v pool end bytes_are same is s =
+    let fits1 = subst (λ (x : List ℕ). IsBytes x) (sym bytes_are) fits in
+    let here = subst (λ (x : List ℕ). Stands x end (text_of_body c) (length x)) (sym bytes_are) s in
+    let body = subst (λ (t : List Constant). IsBodyOf t c v) (sym same) (body_of c v is) in
+    body_only pool fits1 end c.flags c.this c.super c.interfaces c.methods c.attributes v body here
+
+-- a class file is read, with its view
+pub class_only : (bytes : List ℕ) (v : View) → IsBytes bytes → Reads bytes v → class_of bytes ≡ Ok v
+unfolding class_of
+class_only bytes v fits r =
+    let c = r.file in
+    let is = r.view in
+    let text : List ℕ = text_of_body c in
+    let s = is_whole bytes (spelling c) r.spelled in
+    let h = header_only bytes c.minor c.major (u2 (1 + length c.pool) ++ (flat_map constant c.pool ++ text)) (length bytes) is.minor is.from is.to s in
+    let p = pool_only bytes 8 c.pool text (length bytes) is.pool h.1 in
+    rw (h.0, p.read_is) (body_again bytes fits c v p.pool p.end p.bytes_are p.same is p.stands)
+
+-- what a reader answers
+pub is_found : (bytes : List ℕ) (r : Result View (ReadError ClassFault)) → IsBytes bytes → Gives (λ v. v) r (class_of bytes) → IfOk r (λ v. Reads bytes v)
+is_found bytes (Ok v) fits given = class_found bytes v fits given
+is_found bytes (Err e) fits given = tt
+
+verdict_by : (bytes : List ℕ) → IsBytes bytes → (r : Result View ClassFault) → class_of bytes ≡ r → Verdict bytes
+verdict_by bytes fits (Ok v) is =
+    IsRead v (class_found bytes v fits is) (λ w reads. ok_is w v (sym (class_only bytes w fits reads) ∙ is)) (λ f broken. ok_or_err v f (sym is ∙ broken))
+verdict_by bytes fits (Err f) is =
+    IsBroken f is (λ g broken. err_is g f (sym broken ∙ is)) (λ v reads. ok_or_err v f (sym (class_only bytes v fits reads) ∙ is))
+
+pub verdict : (bytes : List ℕ) → IsBytes bytes → Verdict bytes
+verdict bytes fits = verdict_by bytes fits (class_of bytes) refl

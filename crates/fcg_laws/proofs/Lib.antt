@@ -1,0 +1,13 @@
+pub mod Places
+pub mod GroupLemmas
+pub mod GroupLaws
+pub mod PoolLaws
+pub mod NameLaws
+pub mod AttributeLaws
+pub mod Fresh
+pub mod MethodLaws
+pub mod TypeLaws
+pub mod BodyLaws
+pub mod ClassLaws
+pub mod ValidLaws
+pub mod FaultLaws

@@ -1,0 +1,14 @@
+use Rattle.std.proofs.Common.{◌≡◌, ◌≤◌, ◌+◌, ◌-◌, vec_len}
+use Rattle.std.specs.Io.KnownBytes.{Consumes}
+use Rattle.fcg_bytes.specs.declared.source.TheConstants.{READ_BUFFER}
+use Rattle.fcg_bytes.proofs.source.read_all.Given as goal
+
+abbrev pub invariant-loop-buf : goal.invariant-loop-buf
+invariant-loop-buf g l =
+    Consumes (g.S.Source.left l.fn.source) (g.S.Source.left l.source) l.bytes.items
+    × (vec_len l.bytes ≤ l.limit + READ_BUFFER)
+    × (g.S.Source.faults l.source ≡ g.S.Source.faults l.fn.source)
+    × (g.S.Source.aside l.source ≡ g.S.Source.aside l.fn.source)
+
+abbrev pub decreases-loop-buf : goal.decreases-loop-buf
+decreases-loop-buf g l = (l.limit + 1) - vec_len l.bytes

@@ -1,0 +1,4 @@
+pub mod Causes
+pub mod Objects
+pub mod Standard
+pub mod Streams

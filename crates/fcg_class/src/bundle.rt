@@ -137,7 +137,7 @@ fn read_plain(alloc: Global, bytes: &[u8]) -> Result<Views, ReadError<BundleFaul
 }
 
 #[tactic(auto, unfolding(crate::specs::Bundle::bundle_of))]
-fn read_whole(alloc: Global, bytes: &[u8]) -> Result<Views, ReadError<BundleFault>>
+pub fn read_bundle(alloc: Global, bytes: &[u8]) -> Result<Views, ReadError<BundleFault>>
     ensures exact { Gives (λ views. views) result (bundle_of bytes.now) }
     ensures jar { IsErrOf result (ReadError.Fault BundleFault.Jar) ↔ IsTrue (is_jar bytes.now) }
 {

@@ -14,4 +14,4 @@ mod path;
 mod pool;
 mod text;
 
-pub use bundle::BundleFault;
+pub use bundle::{BundleFault, read_bundle};

@@ -1,6 +1,6 @@
 use Rattle.std.proofs.Common.{Bool, false, IsTrue, subst, sym, ◌∙◌}
 use Rattle.fcg_class.proofs.JarLemmas.{no_jar}
-use Rattle.fcg_class.proofs.bundle.read_whole.Goals as goal
+use Rattle.fcg_class.proofs.bundle.read_bundle.Goals as goal
 
 pub returns-clause-jar : goal.returns-clause-jar
 returns-clause-jar c = (

@@ -1,0 +1,78 @@
+-- What a run answers: a status, what it writes, and its line on the errors.
+use Rattle.std.specs.Prelude.{◌≡◌, ◌⊎◌, ℕ, List, [], ◌∷◌, length, take, nat_lt, codes, Option, Some, None, Result, Ok, Err, if◌then◌else◌}
+use Rattle.std.specs.Io.KnownBytes.{Appends}
+use Rattle.fcg_bytes.specs.Causes.{Rose}
+use Rattle.fcg_views.specs.declared.view.View.{View}
+use Rattle.fcg_class.specs.declared.bundle.BundleFault.{BundleFault}
+use Rattle.fcg_class.specs.declared.bundle.BundleFault.TheVariants as faults
+use Rattle.fcg_class.specs.Bundle.{bundle_of}
+use Rattle.fcg_top.specs.declared.words.Command.{Command}
+use Rattle.fcg_top.specs.declared.words.Command.TheVariants as commands
+use Rattle.fcg_top.specs.declared.status.Status.{Status}
+use Rattle.fcg_top.specs.declared.status.Status.TheVariants as statuses
+use Rattle.fcg_top.specs.declared.status.Refusal.{Refusal}
+use Rattle.fcg_top.specs.declared.status.Refusal.TheVariants as refusals
+use Rattle.fcg_top.specs.declared.status.Stop.{Stop}
+use Rattle.fcg_top.specs.declared.status.Stop.TheVariants as stops
+use Rattle.fcg_top.specs.Text.{line, list_text}
+
+-- the length of the longest bundle
+abbrev pub bundle_limit : ℕ
+bundle_limit = 67108864
+
+-- the body of a refusal
+abbrev pub body_of : Refusal → List ℕ
+body_of refusals.BodyTooLong = codes "{\"fault\":\"BodyTooLong\",\"limit\":67108864}"
+body_of refusals.Jar = codes "{\"fault\":\"Jar\"}"
+body_of refusals.NotBuilt = codes "{\"fault\":\"NotBuilt\"}"
+
+abbrev pub list_of_bundle : Result (List View) BundleFault → Result (List ℕ) Refusal
+list_of_bundle (Ok views) = Ok (list_text views)
+list_of_bundle (Err faults.Jar) = Err refusals.Jar
+list_of_bundle (Err faults.NotBuilt) = Err refusals.NotBuilt
+
+-- What `list` answers to its input: the text on the output, or a refusal.
+unfoldable pub list_answer : List ℕ → Result (List ℕ) Refusal
+list_answer input = if nat_lt bundle_limit (length input) then Err refusals.BodyTooLong else list_of_bundle (bundle_of input)
+
+-- What a command answers to its input. Words of no command write nothing.
+abbrev pub answer : Option Command → List ℕ → Result (List ℕ) Refusal
+answer (Some commands.List) input = list_answer input
+answer None input = Ok []
+
+-- A front of a text was written.
+abbrev pub GainsFront : Option (List ℕ) → Option (List ℕ) → List ℕ → Type 0
+GainsFront old new text = (n : ℕ) × Appends old new (take n text)
+
+-- What a run leaves on the output: the whole text at Ok, a front of it where the output failed, else nothing.
+abbrev pub Leaves : Status → Result (List ℕ) Refusal → Option (List ℕ) → Option (List ℕ) → Type 0
+Leaves statuses.Ok (Ok text) old new = Appends old new text
+Leaves statuses.Ok (Err refusal) old new = ⊥
+Leaves statuses.WriteFailed (Ok text) old new = GainsFront old new text
+Leaves statuses.WriteFailed (Err refusal) old new = ⊥
+Leaves statuses.Refused (Ok text) old new = ⊥
+Leaves statuses.Refused (Err refusal) old new = Appends old new []
+Leaves statuses.Words answer old new = Appends old new []
+Leaves statuses.ReadFailed answer old new = Appends old new []
+Leaves statuses.NoMemory answer old new = Appends old new []
+
+-- The line on the errors.
+abbrev pub errors_of : Status → Result (List ℕ) Refusal → List ℕ
+errors_of statuses.Ok answer = []
+errors_of statuses.Words answer = line (codes "words")
+errors_of statuses.Refused (Ok text) = []
+errors_of statuses.Refused (Err refusal) = line (body_of refusal)
+errors_of statuses.ReadFailed answer = line (codes "read failed")
+errors_of statuses.WriteFailed answer = line (codes "write failed")
+errors_of statuses.NoMemory answer = line (codes "no memory")
+
+-- A line was told whole, or where the errors failed a front of it.
+abbrev pub Tells : ℕ → ℕ → Option (List ℕ) → Option (List ℕ) → List ℕ → Type 0
+Tells before now old new text = Appends old new text ⊎ (Rose before now × GainsFront old new text)
+
+-- What a part of the run stopped with, or made, answers the input.
+abbrev pub Makes : {X : Type 0} → (X → List ℕ) → Result X Stop → Result (List ℕ) Refusal → Type 0
+Makes view (Ok x) answer = answer ≡ Ok (view x)
+Makes view (Err (stops.Refused refusal)) answer = answer ≡ Err refusal
+Makes view (Err stops.ReadFailed) answer = Unit {0}
+Makes view (Err stops.NoMemory) answer = Unit {0}

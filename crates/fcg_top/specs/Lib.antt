@@ -1,0 +1,5 @@
+pub mod Words
+pub mod Status
+pub mod Text
+pub mod Answer
+pub mod Stopped

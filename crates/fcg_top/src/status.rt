@@ -1,0 +1,133 @@
+//! How a run ended, and why a command stops before it writes.
+
+use fcg_bytes::ReadAllRefusal;
+use fcg_class::BundleFault;
+use fcg_grammar::ReadError;
+use fcg_views::NoMemory;
+
+/// How a run ended. Its number is the exit status of the program.
+#[derive(Clone, Copy, Debug, PartialEq, Eq)]
+pub enum Status {
+    /// The output was written.
+    Ok,
+    /// The words are those of no command. Nothing was read.
+    Words,
+    /// The input was refused, and the refusal is on the errors.
+    Refused,
+    /// A read of the input failed.
+    ReadFailed,
+    /// A write to the output failed. A front of the output was written.
+    WriteFailed,
+    /// There was no memory.
+    NoMemory,
+}
+
+impl Status {
+    ghost use Rattle.std.specs.Prelude.{◌≡◌};
+    ghost use Rattle.fcg_top.specs.Status.{number};
+
+    /// The exit status.
+    pub fn code(self) -> u8
+        ensures { result ≡ number self }
+    {
+        match self {
+            Status::Ok => 0,
+            Status::Words => 2,
+            Status::Refused => 3,
+            Status::ReadFailed => 4,
+            Status::WriteFailed => 5,
+            Status::NoMemory => 7,
+        }
+    }
+}
+
+/// Why an input is refused.
+#[derive(Clone, Copy, Debug, PartialEq, Eq)]
+pub enum Refusal {
+    /// It is longer than the longest bundle.
+    BodyTooLong,
+    /// It is a jar.
+    Jar,
+    /// It is no bundle, or holds what isn't read yet.
+    NotBuilt,
+}
+
+/// Why a command stopped before it wrote.
+#[derive(Clone, Copy, Debug, PartialEq, Eq)]
+pub enum Stop {
+    Refused(Refusal),
+    ReadFailed,
+    NoMemory,
+}
+
+impl From<NoMemory> for Stop {
+    ghost use Rattle.std.specs.Prelude.{◌≡◌};
+    ghost use Rattle.fcg_top.specs.declared.status.Stop.TheVariants as stops;
+
+    ghost from_gives = { λ _ e. e ≡ stops.NoMemory };
+
+    fn from(_: NoMemory) -> Stop {
+        Stop::NoMemory
+    }
+}
+
+impl From<ReadAllRefusal> for Stop {
+    ghost use Rattle.std.specs.Prelude.{◌≡◌};
+    ghost use Rattle.fcg_top.specs.Stopped.{stop_of_read};
+
+    ghost from_gives = { λ refusal e. e ≡ stop_of_read refusal };
+
+    fn from(refusal: ReadAllRefusal) -> Stop {
+        match refusal {
+            ReadAllRefusal::NoMemory => Stop::NoMemory,
+            ReadAllRefusal::Failed => Stop::ReadFailed,
+            ReadAllRefusal::TooLong => Stop::Refused(Refusal::BodyTooLong),
+        }
+    }
+}
+
+impl From<ReadError<BundleFault>> for Stop {
+    ghost use Rattle.std.specs.Prelude.{◌≡◌};
+    ghost use Rattle.fcg_top.specs.Stopped.{stop_of_bundle};
+
+    ghost from_gives = { λ error e. e ≡ stop_of_bundle error };
+
+    fn from(error: ReadError<BundleFault>) -> Stop {
+        match error {
+            ReadError::NoMemory => Stop::NoMemory,
+            ReadError::Fault(BundleFault::Jar) => Stop::Refused(Refusal::Jar),
+            ReadError::Fault(BundleFault::NotBuilt) => Stop::Refused(Refusal::NotBuilt),
+        }
+    }
+}
+
+impl Stop {
+    ghost use Rattle.std.specs.Prelude.{◌≡◌};
+    ghost use Rattle.fcg_top.specs.Stopped.{status_of, line_of};
+
+    /// The status of a run that stopped so.
+    pub fn status(self) -> Status
+        ensures { result ≡ status_of self }
+    {
+        match self {
+            Stop::Refused(_) => Status::Refused,
+            Stop::ReadFailed => Status::ReadFailed,
+            Stop::NoMemory => Status::NoMemory,
+        }
+    }
+
+    /// The line on the errors.
+    pub fn line(self) -> &'static [u8]
+        ensures { result.now ≡ line_of self }
+    {
+        match self {
+            Stop::Refused(Refusal::BodyTooLong) => {
+                b"{\"fault\":\"BodyTooLong\",\"limit\":67108864}\n"
+            }
+            Stop::Refused(Refusal::Jar) => b"{\"fault\":\"Jar\"}\n",
+            Stop::Refused(Refusal::NotBuilt) => b"{\"fault\":\"NotBuilt\"}\n",
+            Stop::ReadFailed => b"read failed\n",
+            Stop::NoMemory => b"no memory\n",
+        }
+    }
+}

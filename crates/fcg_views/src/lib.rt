@@ -12,7 +12,7 @@ mod memory;
 mod name;
 mod view;
 
-pub use descriptor::{DescState, scan_text};
+pub use descriptor::{DescFault, DescSpan, read_descriptor};
 pub use entry::{Entry, Placed};
 pub use escaping::{Place, escape, push_escaped};
 pub use fault::{ClassFault, ClassRule, at_index, fault_at};

@@ -3,3 +3,4 @@ pub mod DescRuns
 pub mod DescFound
 pub mod DescBreaks
 pub mod DescLaws
+pub mod Distinct

@@ -10,6 +10,7 @@ mod fault;
 mod items;
 mod memory;
 mod name;
+mod valid;
 mod view;
 
 pub use descriptor::{DescFault, DescSpan, read_descriptor};
@@ -19,4 +20,5 @@ pub use fault::{ClassFault, ClassRule, at_index, fault_at};
 pub use items::{Bytes, Fields, Items, Methods, Names, Sites, Views};
 pub use memory::NoMemory;
 pub use name::Name;
+pub use valid::is_valid;
 pub use view::{Field, HandleKind, Method, Ref, Site, SiteKind, View};

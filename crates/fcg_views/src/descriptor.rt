@@ -42,6 +42,12 @@ enum DescState {
     Done(DescSpan),
 }
 
+// The most units of the parameters.
+const MOST_UNITS: u16 = 255;
+
+// The most dimensions of an array.
+const MOST_DIMENSIONS: u16 = 255;
+
 // Whether a byte is the letter of a base type.
 fn is_letter(byte: u8) -> bool
     ensures { result ≡ is_letter byte }
@@ -70,7 +76,7 @@ fn taken(count: u16, units: u16, more: u16) -> Option<DescState>
     ensures value { result ≡ taken count units more }
     ensures small { IfSome result IsSmall }
 {
-    if units + more <= 255 {
+    if units + more <= MOST_UNITS {
         Some(DescState::Parameters(count + 1, units + more))
     } else {
         None
@@ -91,7 +97,7 @@ fn parameter_step(count: u16, units: u16, at: usize, byte: u8) -> Option<DescSta
         }))
     } else if is_letter(byte) {
         taken(count, units, letter_units(byte))
-    } else if units >= 255 {
+    } else if units >= MOST_UNITS {
         None
     } else if byte == b'[' {
         Some(DescState::Array(count, units, 1))
@@ -111,7 +117,7 @@ fn array_step(count: u16, units: u16, dimensions: u16, byte: u8) -> Option<DescS
         taken(count, units, 1)
     } else if byte == b'L' {
         Some(DescState::Name(count, units, false))
-    } else if byte == b'[' && dimensions < 255 {
+    } else if byte == b'[' && dimensions < MOST_DIMENSIONS {
         Some(DescState::Array(count, units, dimensions + 1))
     } else {
         None
@@ -157,7 +163,7 @@ fn result_array_step(span: DescSpan, dimensions: u16, byte: u8) -> Option<DescSt
         Some(DescState::Done(span))
     } else if byte == b'L' {
         Some(DescState::ReturnedName(span, false))
-    } else if byte == b'[' && dimensions < 255 {
+    } else if byte == b'[' && dimensions < MOST_DIMENSIONS {
         Some(DescState::ReturnedArray(span, dimensions + 1))
     } else {
         None

@@ -10,6 +10,8 @@ mod fault;
 mod items;
 mod memory;
 mod name;
+#[cfg(test)]
+mod tests;
 mod valid;
 mod view;
 

@@ -1,9 +1,8 @@
 -- The test for a method descriptor against its grammar.
-use Rattle.std.proofs.Common.{◌≡◌, true, List, refl}
+use Rattle.std.proofs.Common.{◌≡◌, ℕ, true, List, refl}
 use Rattle.std.specs.Prelude.{MatchResult, is_ok, Result, Ok, Err}
 use Rattle.fcg_views.specs.declared.descriptor.DescSpan.{DescSpan}
 use Rattle.fcg_views.specs.declared.descriptor.DescFault.{DescFault}
-use Rattle.std.proofs.Common.{ℕ}
 use Rattle.fcg_views.specs.Descriptor.{Spans, FaultAt, IsDescriptor}
 use Rattle.fcg_views.specs.DescSteps.{descriptor_of, is_descriptor}
 use Rattle.fcg_views.proofs.DescBreaks.{told_right}

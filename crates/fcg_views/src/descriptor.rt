@@ -1,5 +1,5 @@
 //! Method descriptors (JVMS 4.3.3), read byte by byte.
-ghost use Rattle.std.specs.Prelude.{◌≡◌, ◌+◌, ◌-◌, ◌^◌, ◌≤◌, ◌<◌, min, IfSome, IfOk, IfErr};
+ghost use Rattle.std.specs.Prelude.{◌≡◌, ◌-◌, ◌^◌, ◌≤◌, ◌<◌, min, IfSome, IfOk, IfErr};
 ghost use Rattle.fcg_views.specs.DescBounds.{IsSmall};
 ghost use Rattle.fcg_views.specs.Descriptor.{Spans, FaultAt};
 ghost use Rattle.fcg_views.specs.DescSteps.{is_letter, letter_units, taken, parameter_step, array_step, name_step, result_step, result_array_step, result_name_step, step, fault_at, ended, scan, descriptor_of};

@@ -1,6 +1,6 @@
 //! The values that every layer speaks of: names, views of class files, and lists of them. In specs/ stand the public
-//! definitions: what a class file is and which first fault other bytes have, what a method descriptor is, and how
-//! names are escaped. The crate stands on the words of formats alone.
+//! definitions: what a class file is and which first fault other bytes have, what a method descriptor is and where other
+//! bytes break, which views are valid, and how names are escaped. The crate stands on the words of formats alone.
 #![tactic(auto)]
 
 mod descriptor;

@@ -1,5 +1,5 @@
 //! Which views are valid.
-ghost use Rattle.std.specs.Prelude.{◌≡◌, ◌↔◌, ◌≤◌, IsTrue, length, All, false};
+ghost use Rattle.std.specs.Prelude.{◌≡◌, ◌↔◌, ◌≤◌, IsTrue, All, false};
 ghost use Rattle.std.specs.List.{IsDistinct};
 ghost use Rattle.fcg_views.specs.Breaks.Words.{is_alike};
 ghost use Rattle.fcg_views.specs.Valid.{IsShort, IsShortOrNone, IsTable, HasShortNames, IsValidField, IsValidMethod, IsValid, site_count};

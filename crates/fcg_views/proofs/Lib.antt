@@ -1,5 +1,6 @@
 pub mod Escapes
-pub mod Runs
-pub mod Found
-pub mod Breaks
+pub mod DescRuns
+pub mod DescFound
+pub mod DescBreaks
 pub mod DescLaws
+pub mod Distinct

@@ -1,4 +1,4 @@
--- Which states a descriptor's front leaves.
+-- Which states the front of a descriptor leaves.
 use Rattle.std.specs.Prelude.{◌≤◌}
 use Rattle.fcg_views.specs.declared.descriptor.DescState.{DescState}
 use Rattle.fcg_views.specs.declared.descriptor.DescState.TheVariants.{Start, Parameters, Array, Name, Returned, ReturnedArray, ReturnedName, Done}
@@ -7,9 +7,9 @@ use Rattle.fcg_views.specs.declared.descriptor.DescState.TheVariants.{Start, Par
 abbrev pub IsSmall : DescState → Type 0
 IsSmall Start = Unit {0}
 IsSmall (Parameters count units) = (count ≤ units) × (units ≤ 255)
-IsSmall (Array count units dims) = (count ≤ units) × (units ≤ 255) × (dims ≤ 255)
+IsSmall (Array count units dimensions) = (count ≤ units) × (units ≤ 255) × (dimensions ≤ 255)
 IsSmall (Name count units filled) = (count ≤ units) × (units ≤ 255)
-IsSmall Returned = Unit {0}
-IsSmall (ReturnedArray dims) = dims ≤ 255
-IsSmall (ReturnedName filled) = Unit {0}
-IsSmall Done = Unit {0}
+IsSmall (Returned span) = Unit {0}
+IsSmall (ReturnedArray span dimensions) = dimensions ≤ 255
+IsSmall (ReturnedName span filled) = Unit {0}
+IsSmall (Done span) = Unit {0}

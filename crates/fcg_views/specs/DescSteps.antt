@@ -1,43 +1,68 @@
 -- A method descriptor read byte by byte: a state for each front of a descriptor.
-use Rattle.std.specs.Prelude.{ℕ, length, ◌+◌, List, [], ◌∷◌, Bool, true, false, not, is_some, ◌||◌, ◌==◌, nat_lt, nat_le, Option, Some, None, Result, Ok, Err, if◌then◌else◌}
+use Rattle.std.specs.Prelude.{ℕ, length, min, ◌+◌, ◌-◌, ◌^◌, List, [], ◌∷◌, Bool, true, false, is_ok, ◌||◌, ◌==◌, nat_lt, nat_le, Option, Some, None, Result, Ok, Err, if◌then◌else◌}
+use Rattle.fcg_views.specs.declared.descriptor.DescSpan.{DescSpan}
+use Rattle.fcg_views.specs.declared.descriptor.DescFault.{DescFault}
 use Rattle.fcg_views.specs.declared.descriptor.DescState.{DescState}
 use Rattle.fcg_views.specs.declared.descriptor.DescState.TheVariants.{Start, Parameters, Array, Name, Returned, ReturnedArray, ReturnedName, Done}
 
 -- BCDFIJSZ
 abbrev pub is_letter : ℕ → Bool
-is_letter c = c == 66 || (c == 67 || (c == 68 || (c == 70 || (c == 73 || (c == 74 || (c == 83 || c == 90))))))
+is_letter b = b == 66 || (b == 67 || (b == 68 || (b == 70 || (b == 73 || (b == 74 || (b == 83 || b == 90))))))
 
 -- J and D count two
 abbrev pub letter_units : ℕ → ℕ
-letter_units c = if c == 74 || c == 68 then 2 else 1
+letter_units b = if b == 74 || b == 68 then 2 else 1
 
--- a parameter that takes so many units begins, where they fit
+-- a parameter that takes so many units more, where they fit
 abbrev pub taken : ℕ → ℕ → ℕ → Option DescState
 taken count units more = if nat_le (units + more) 255 then Some (Parameters (count + 1) (units + more)) else None
 
-abbrev pub step : DescState → ℕ → Option DescState
-step Start b = if b == 40 then Some (Parameters 0 0) else None
-step (Parameters count units) b =
-    if b == 41 then Some Returned
+-- what the parameters were, where the `)` stands at a place
+abbrev pub closed : ℕ → ℕ → ℕ → DescSpan
+closed count units at = record { parameters = count; units = units; result_at = min (at + 1) (2 ^ 32 - 1) }
+
+abbrev pub parameter_step : ℕ → ℕ → ℕ → ℕ → Option DescState
+parameter_step count units at b =
+    if b == 41 then Some (Returned (closed count units at))
     else (if is_letter b then taken count units (letter_units b)
     else (if nat_le 255 units then None
     else (if b == 91 then Some (Array count units 1)
     else (if b == 76 then Some (Name count units false) else None))))
-step (Array count units dims) b =
+
+abbrev pub array_step : ℕ → ℕ → ℕ → ℕ → Option DescState
+array_step count units dimensions b =
     if is_letter b then taken count units 1
     else (if b == 76 then Some (Name count units false)
-    else (if b == 91 then (if nat_lt dims 255 then Some (Array count units (dims + 1)) else None) else None))
-step (Name count units filled) b =
+    else (if b == 91 then (if nat_lt dimensions 255 then Some (Array count units (dimensions + 1)) else None) else None))
+
+abbrev pub name_step : ℕ → ℕ → Bool → ℕ → Option DescState
+name_step count units filled b =
     if b == 59 then (if filled then taken count units 1 else None) else Some (Name count units true)
-step Returned b =
-    if b == 86 || is_letter b then Some Done
-    else (if b == 91 then Some (ReturnedArray 1) else (if b == 76 then Some (ReturnedName false) else None))
-step (ReturnedArray dims) b =
-    if is_letter b then Some Done
-    else (if b == 76 then Some (ReturnedName false)
-    else (if b == 91 then (if nat_lt dims 255 then Some (ReturnedArray (dims + 1)) else None) else None))
-step (ReturnedName filled) b = if b == 59 then (if filled then Some Done else None) else Some (ReturnedName true)
-step Done b = None
+
+abbrev pub result_step : DescSpan → ℕ → Option DescState
+result_step span b =
+    if b == 86 || is_letter b then Some (Done span)
+    else (if b == 91 then Some (ReturnedArray span 1) else (if b == 76 then Some (ReturnedName span false) else None))
+
+abbrev pub result_array_step : DescSpan → ℕ → ℕ → Option DescState
+result_array_step span dimensions b =
+    if is_letter b then Some (Done span)
+    else (if b == 76 then Some (ReturnedName span false)
+    else (if b == 91 then (if nat_lt dimensions 255 then Some (ReturnedArray span (dimensions + 1)) else None) else None))
+
+abbrev pub result_name_step : DescSpan → Bool → ℕ → Option DescState
+result_name_step span filled b = if b == 59 then (if filled then Some (Done span) else None) else Some (ReturnedName span true)
+
+-- the state after a byte that stands at a place
+abbrev pub step : DescState → ℕ → ℕ → Option DescState
+step Start at b = if b == 40 then Some (Parameters 0 0) else None
+step (Parameters count units) at b = parameter_step count units at b
+step (Array count units dimensions) at b = array_step count units dimensions b
+step (Name count units filled) at b = name_step count units filled b
+step (Returned span) at b = result_step span b
+step (ReturnedArray span dimensions) at b = result_array_step span dimensions b
+step (ReturnedName span filled) at b = result_name_step span filled b
+step (Done span) at b = None
 
 -- the state after the bytes, or the place of the first that no descriptor has there
 abbrev pub goes : Option DescState → (DescState → Result DescState ℕ) → ℕ → Result DescState ℕ
@@ -46,17 +71,28 @@ goes (Some s) next at = next s
 
 abbrev pub scan_from : ℕ → DescState → List ℕ → Result DescState ℕ
 scan_from at s [] = Ok s
-scan_from at s (b ∷ bs) = goes (step s b) (λ t. scan_from (at + 1) t bs) at
+scan_from at s (b ∷ bs) = goes (step s at b) (λ t. scan_from (at + 1) t bs) at
 
 abbrev pub scan : List ℕ → Result DescState ℕ
 scan text = scan_from 0 Start text
 
--- the place of the fault, where there is one
-abbrev pub fault_in : List ℕ → Result DescState ℕ → Option ℕ
-fault_in text (Ok Done) = None
-fault_in text (Ok s) = Some (length text)
-fault_in text (Err n) = Some n
+-- a place that is too large for its field is given as the field's last value
+abbrev pub fault_at : ℕ → DescFault
+fault_at at = record { offset = min at (2 ^ 32 - 1) }
+
+-- a text that ends in the midst of a descriptor breaks at its end
+abbrev pub ended : DescState → ℕ → Result DescSpan DescFault
+ended (Done span) at = Ok span
+ended s at = Err (fault_at at)
+
+abbrev pub told : ℕ → Result DescState ℕ → Result DescSpan DescFault
+told end (Ok s) = ended s end
+told end (Err at) = Err (fault_at at)
+
+-- what a text says, as a method descriptor
+abbrev pub descriptor_of : List ℕ → Result DescSpan DescFault
+descriptor_of text = told (length text) (scan text)
 
 -- whether the text is a method descriptor
 abbrev pub is_descriptor : List ℕ → Bool
-is_descriptor text = not (is_some (fault_in text (scan text)))
+is_descriptor text = is_ok (descriptor_of text)

@@ -1,6 +1,8 @@
 -- Method descriptors (JVMS 4.3.3), with the length of an array and the units of the parameters bounded.
-use Rattle.std.specs.Prelude.{◌≡◌, ℕ, zero, suc, ◌+◌, ◌≤◌, ◌<◌, List, [], ◌∷◌, ◌++◌, length, take, ◌==◌, true, false, Option, Some, None}
+use Rattle.std.specs.Prelude.{◌≡◌, ℕ, zero, suc, ◌+◌, ◌-◌, ◌^◌, ◌≤◌, ◌<◌, min, List, [], ◌∷◌, ◌++◌, length, take, ◌==◌, true, false, Option, Some, None}
 use Rattle.std.specs.List.{flat_map, AllByRecursion}
+use Rattle.fcg_views.specs.declared.descriptor.DescSpan.{DescSpan}
+use Rattle.fcg_views.specs.declared.descriptor.DescFault.{DescFault}
 use Rattle.fcg_views.specs.DescSteps.{is_letter, letter_units}
 
 -- a field type: a letter of BCDFIJSZ, a class, an array of one of these
@@ -83,14 +85,18 @@ pub record BreaksAt (text : List ℕ) (n : ℕ) : Type 0 where
   pub longest : (k : ℕ) → n < k → k ≤ length text → IsFront text k → ⊥
   pub none : (m : MethodType) → IsMethodType m → spell m ≡ text → ⊥
 
--- what a descriptor's reader tells
-pub record Spans (text : List ℕ) (parameters unit_count result_at : ℕ) : Type 0 where
+-- the number that a fault gives of such a text
+abbrev pub FaultAt : List ℕ → DescFault → Type 0
+FaultAt text fault = (n : ℕ) × BreaksAt text n × (fault.offset ≡ min n (2 ^ 32 - 1))
+
+-- what a method descriptor says of its parameters
+pub record Spans (text : List ℕ) (span : DescSpan) : Type 0 where
   pub type : MethodType
   pub kept : IsMethodType type
   pub spelled : spell type ≡ text
-  pub parameters_are : parameters ≡ length type.parameters
-  pub units_are : unit_count ≡ units type.parameters
-  pub result_at_is : result_at ≡ 2 + length (flat_map spell_field type.parameters)
+  pub parameters_are : span.parameters ≡ length type.parameters
+  pub units_are : span.units ≡ units type.parameters
+  pub result_at_is : span.result_at ≡ min (2 + length (flat_map spell_field type.parameters)) (2 ^ 32 - 1)
 
 -- the text is a method descriptor
 abbrev pub IsDescriptor : List ℕ → Type 0

@@ -1,11 +1,10 @@
 -- Which views are valid: those that a class file could have.
-use Rattle.std.specs.Prelude.{ℕ, ◌+◌, ◌<◌, ◌≤◌, ◌^◌, List, [], ◌∷◌, length, Option, Some, None}
-use Rattle.std.specs.List.{AllByRecursion, IsDistinct}
+use Rattle.std.specs.Prelude.{ℕ, ◌≤◌, List, length, sum_by, All, Option, Some, None}
+use Rattle.std.specs.List.{IsDistinct}
 use Rattle.fcg_views.specs.declared.view.View.{View}
 use Rattle.fcg_views.specs.declared.view.Field.{Field}
 use Rattle.fcg_views.specs.declared.view.Method.{Method}
 use Rattle.fcg_views.specs.declared.view.Site.{Site}
-use Rattle.fcg_views.specs.declared.view.Ref.{Ref}
 use Rattle.fcg_views.specs.Breaks.Words.{is_alike}
 
 -- a name fits a Utf8 constant (JVMS 4.4.7)
@@ -14,7 +13,7 @@ IsShort name = length name ≤ 65535
 
 -- a list fits a table whose count has two bytes
 abbrev pub IsTable : {X : Type 0} → (X → Type 0) → List X → Type 0
-IsTable P rows = (length rows ≤ 65535) × AllByRecursion P rows
+IsTable P rows = (length rows ≤ 65535) × All P rows
 
 abbrev pub IsShortOrNone : Option (List ℕ) → Type 0
 IsShortOrNone None = Unit {0}
@@ -27,11 +26,11 @@ abbrev pub IsValidField : Field → Type 0
 IsValidField f = IsShort f.name × IsShort f.desc
 
 abbrev pub IsValidMethod : Method → Type 0
-IsValidMethod m = IsShort m.name × IsShort m.desc × AllByRecursion HasShortNames m.sites
+IsValidMethod m = IsShort m.name × IsShort m.desc × All HasShortNames m.sites
 
+-- the sites of all methods
 abbrev pub site_count : List Method → ℕ
-site_count [] = 0
-site_count (m ∷ ms) = length m.sites + site_count ms
+site_count methods = sum_by (λ m. length m.sites) methods
 
 pub record IsValid (v : View) : Type 0 where
   pub name : IsShort v.name

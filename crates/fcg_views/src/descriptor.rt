@@ -1,140 +1,233 @@
-//! Method descriptors, byte by byte.
-ghost use Rattle.std.specs.Prelude.{◌≡◌, ◌≤◌, ◌<◌, IfSome};
-ghost use Rattle.std.specs.Prelude.{ℕ, List, Ok, Some};
-ghost use Rattle.fcg_views.specs.declared.descriptor.DescState.TheVariants.{Done};
-ghost use Rattle.fcg_views.specs.Descriptor.{MethodType, IsMethodType, spell, BreaksAt};
-ghost use Rattle.fcg_views.specs.DescSteps.{taken, step, scan, fault_in};
+//! Method descriptors (JVMS 4.3.3), read byte by byte.
+ghost use Rattle.std.specs.Prelude.{◌≡◌, ◌-◌, ◌^◌, ◌≤◌, ◌<◌, min, IfSome, IfOk, IfErr};
 ghost use Rattle.fcg_views.specs.DescBounds.{IsSmall};
-ghost use Rattle.fcg_views.specs.DescSteps.{is_letter, letter_units};
+ghost use Rattle.fcg_views.specs.Descriptor.{Spans, FaultAt};
+ghost use Rattle.fcg_views.specs.DescSteps.{is_letter, letter_units, taken, parameter_step, array_step, name_step, result_step, result_array_step, result_name_step, step, fault_at, ended, scan, descriptor_of};
 
-/// What a front of a descriptor leaves open. The numbers are the parameters and units so far, and the dimensions.
+/// What a method descriptor says of its parameters.
 #[derive(Clone, Copy, Debug, PartialEq, Eq)]
-pub enum DescState {
+pub struct DescSpan {
+    /// How many parameters there are.
+    pub parameters: u16,
+    /// Their units: two for a `long` and for a `double`, one for any other (JVMS 4.3.3).
+    pub units: u16,
+    /// The place of the first byte of the result. A place that is too large is given as the last value.
+    pub result_at: u32,
+}
+
+/// Where a text stops to be the front of a method descriptor.
+#[derive(Clone, Copy, Debug, PartialEq, Eq)]
+pub struct DescFault {
+    /// How many bytes of the text are the front of some method descriptor, at most. A number that is too large is
+    /// given as the last value.
+    pub offset: u32,
+}
+
+// What the front of a descriptor leaves open.
+#[derive(Clone, Copy, Debug, PartialEq, Eq)]
+enum DescState {
+    // Nothing was read.
     Start,
+    // A parameter or `)` follows: the parameters so far, and their units.
     Parameters(u16, u16),
+    // In an array: besides, how many `[` were read.
     Array(u16, u16, u16),
+    // In the name of a class: besides, whether it has a byte.
     Name(u16, u16, bool),
-    Returned,
-    ReturnedArray(u16),
-    ReturnedName(bool),
-    Done,
+    // The result follows.
+    Returned(DescSpan),
+    ReturnedArray(DescSpan, u16),
+    ReturnedName(DescSpan, bool),
+    // The descriptor is complete.
+    Done(DescSpan),
 }
 
-fn is_letter(b: u8) -> bool
-    ensures { result ≡ is_letter b }
+// The most units of the parameters.
+const MOST_UNITS: u16 = 255;
+
+// The most dimensions of an array.
+const MOST_DIMENSIONS: u16 = 255;
+
+// Whether a byte is the letter of a base type.
+fn is_letter(byte: u8) -> bool
+    ensures { result ≡ is_letter byte }
 {
-    matches!(b, b'B' | b'C' | b'D' | b'F' | b'I' | b'J' | b'S' | b'Z')
+    matches!(byte, b'B' | b'C' | b'D' | b'F' | b'I' | b'J' | b'S' | b'Z')
 }
 
-fn letter_units(b: u8) -> u16
-    ensures { result ≡ letter_units b }
+// The units of a parameter of a base type.
+fn letter_units(byte: u8) -> u16
+    ensures { result ≡ letter_units byte }
 {
-    if b == b'J' || b == b'D' { 2 } else { 1 }
+    if byte == b'J' || byte == b'D' { 2 } else { 1 }
 }
 
+// A place, or the last value.
+fn place_of(at: usize) -> u32
+    ensures { result ≡ min at (2 ^ 32 - 1) }
+{
+    u32::try_from(at).unwrap_or(u32::MAX)
+}
+
+// A parameter that takes so many more units, where they fit.
 fn taken(count: u16, units: u16, more: u16) -> Option<DescState>
     requires small { (count ≤ units) × (units ≤ 255) }
     requires more { (0 < more) × (more ≤ 2) }
     ensures value { result ≡ taken count units more }
     ensures small { IfSome result IsSmall }
 {
-    if units + more <= 255 {
+    if units + more <= MOST_UNITS {
         Some(DescState::Parameters(count + 1, units + more))
     } else {
         None
     }
 }
 
-pub fn step(state: DescState, b: u8) -> Option<DescState>
-    requires { IsSmall state }
-    ensures value { result ≡ step state b }
+// The `)`, or the first byte of a parameter.
+fn parameter_step(count: u16, units: u16, at: usize, byte: u8) -> Option<DescState>
+    requires { (count ≤ units) × (units ≤ 255) }
+    ensures value { result ≡ parameter_step count units at byte }
     ensures small { IfSome result IsSmall }
 {
-    match state {
-        DescState::Start => {
-            if b == b'(' {
-                Some(DescState::Parameters(0, 0))
-            } else {
-                None
-            }
-        }
-        DescState::Parameters(count, units) => {
-            if b == b')' {
-                Some(DescState::Returned)
-            } else if is_letter(b) {
-                taken(count, units, letter_units(b))
-            } else if units >= 255 {
-                None
-            } else if b == b'[' {
-                Some(DescState::Array(count, units, 1))
-            } else if b == b'L' {
-                Some(DescState::Name(count, units, false))
-            } else {
-                None
-            }
-        }
-        DescState::Array(count, units, dims) => {
-            if is_letter(b) {
-                taken(count, units, 1)
-            } else if b == b'L' {
-                Some(DescState::Name(count, units, false))
-            } else if b == b'[' && dims < 255 {
-                Some(DescState::Array(count, units, dims + 1))
-            } else {
-                None
-            }
-        }
-        DescState::Name(count, units, filled) => {
-            if b != b';' {
-                Some(DescState::Name(count, units, true))
-            } else if filled {
-                taken(count, units, 1)
-            } else {
-                None
-            }
-        }
-        DescState::Returned => {
-            if b == b'V' || is_letter(b) {
-                Some(DescState::Done)
-            } else if b == b'[' {
-                Some(DescState::ReturnedArray(1))
-            } else if b == b'L' {
-                Some(DescState::ReturnedName(false))
-            } else {
-                None
-            }
-        }
-        DescState::ReturnedArray(dims) => {
-            if is_letter(b) {
-                Some(DescState::Done)
-            } else if b == b'L' {
-                Some(DescState::ReturnedName(false))
-            } else if b == b'[' && dims < 255 {
-                Some(DescState::ReturnedArray(dims + 1))
-            } else {
-                None
-            }
-        }
-        DescState::ReturnedName(filled) => {
-            if b != b';' {
-                Some(DescState::ReturnedName(true))
-            } else if filled {
-                Some(DescState::Done)
-            } else {
-                None
-            }
-        }
-        DescState::Done => None,
+    if byte == b')' {
+        Some(DescState::Returned(DescSpan {
+            parameters: count,
+            units,
+            result_at: place_of(at).saturating_add(1),
+        }))
+    } else if is_letter(byte) {
+        taken(count, units, letter_units(byte))
+    } else if units >= MOST_UNITS {
+        None
+    } else if byte == b'[' {
+        Some(DescState::Array(count, units, 1))
+    } else if byte == b'L' {
+        Some(DescState::Name(count, units, false))
+    } else {
+        None
     }
 }
 
-/// The state after a text, or the place of the first byte that no descriptor has there.
-pub fn scan_text(text: &[u8]) -> Result<DescState, usize>
+fn array_step(count: u16, units: u16, dimensions: u16, byte: u8) -> Option<DescState>
+    requires { (count ≤ units) × (units ≤ 255) × (dimensions ≤ 255) }
+    ensures value { result ≡ array_step count units dimensions byte }
+    ensures small { IfSome result IsSmall }
+{
+    if is_letter(byte) {
+        taken(count, units, 1)
+    } else if byte == b'L' {
+        Some(DescState::Name(count, units, false))
+    } else if byte == b'[' && dimensions < MOST_DIMENSIONS {
+        Some(DescState::Array(count, units, dimensions + 1))
+    } else {
+        None
+    }
+}
+
+fn name_step(count: u16, units: u16, filled: bool, byte: u8) -> Option<DescState>
+    requires { (count ≤ units) × (units ≤ 255) }
+    ensures value { result ≡ name_step count units filled byte }
+    ensures small { IfSome result IsSmall }
+{
+    if byte != b';' {
+        Some(DescState::Name(count, units, true))
+    } else if filled {
+        taken(count, units, 1)
+    } else {
+        None
+    }
+}
+
+// The first byte of the result.
+fn result_step(span: DescSpan, byte: u8) -> Option<DescState>
+    ensures value { result ≡ result_step span byte }
+    ensures small { IfSome result IsSmall }
+{
+    if byte == b'V' || is_letter(byte) {
+        Some(DescState::Done(span))
+    } else if byte == b'[' {
+        Some(DescState::ReturnedArray(span, 1))
+    } else if byte == b'L' {
+        Some(DescState::ReturnedName(span, false))
+    } else {
+        None
+    }
+}
+
+fn result_array_step(span: DescSpan, dimensions: u16, byte: u8) -> Option<DescState>
+    requires { dimensions ≤ 255 }
+    ensures value { result ≡ result_array_step span dimensions byte }
+    ensures small { IfSome result IsSmall }
+{
+    if is_letter(byte) {
+        Some(DescState::Done(span))
+    } else if byte == b'L' {
+        Some(DescState::ReturnedName(span, false))
+    } else if byte == b'[' && dimensions < MOST_DIMENSIONS {
+        Some(DescState::ReturnedArray(span, dimensions + 1))
+    } else {
+        None
+    }
+}
+
+fn result_name_step(span: DescSpan, filled: bool, byte: u8) -> Option<DescState>
+    ensures value { result ≡ result_name_step span filled byte }
+    ensures small { IfSome result IsSmall }
+{
+    if byte != b';' {
+        Some(DescState::ReturnedName(span, true))
+    } else if filled {
+        Some(DescState::Done(span))
+    } else {
+        None
+    }
+}
+
+// The state after one more byte, which stands at a place; none where no descriptor goes on so.
+fn step(state: DescState, at: usize, byte: u8) -> Option<DescState>
+    requires { IsSmall state }
+    ensures value { result ≡ step state at byte }
+    ensures small { IfSome result IsSmall }
+{
+    match state {
+        DescState::Start if byte == b'(' => Some(DescState::Parameters(0, 0)),
+        DescState::Start => None,
+        DescState::Parameters(count, units) => parameter_step(count, units, at, byte),
+        DescState::Array(count, units, dimensions) => array_step(count, units, dimensions, byte),
+        DescState::Name(count, units, filled) => name_step(count, units, filled, byte),
+        DescState::Returned(span) => result_step(span, byte),
+        DescState::ReturnedArray(span, dimensions) => result_array_step(span, dimensions, byte),
+        DescState::ReturnedName(span, filled) => result_name_step(span, filled, byte),
+        DescState::Done(_) => None,
+    }
+}
+
+// The fault at a place.
+fn fault_at(at: usize) -> DescFault
+    ensures { result ≡ fault_at at }
+{
+    DescFault {
+        offset: place_of(at),
+    }
+}
+
+// What a text says that leads to a state and ends at a place.
+fn ended(state: DescState, at: usize) -> Result<DescSpan, DescFault>
+    ensures { result ≡ ended state at }
+{
+    match state {
+        DescState::Done(span) => Ok(span),
+        _ => Err(fault_at(at)),
+    }
+}
+
+// The state after a text, or the place of the first byte without a step.
+fn scan(text: &[u8]) -> Result<DescState, usize>
     ensures { result ≡ scan text.now }
 {
     let mut state = DescState::Start;
-    for (at, b) in text.iter().enumerate() {
-        match step(state, *b) {
+    for (at, byte) in text.iter().enumerate() {
+        match step(state, at, *byte) {
             Some(next) => state = next,
             None => return Err(at),
         }
@@ -142,9 +235,18 @@ pub fn scan_text(text: &[u8]) -> Result<DescState, usize>
     Ok(state)
 }
 
-/// A text that the scan leads to the end is a descriptor, and any other breaks at the place that the scan tells: the
-/// bytes up to it are the front of a descriptor, and no more bytes are.
-pub fn scan_tells_the_place()
-    ensures whole { (text : List ℕ) → scan text ≡ Ok Done → (m : MethodType) × IsMethodType m × (spell m ≡ text) }
-    ensures breaks { (text : List ℕ) (n : ℕ) → fault_in text (scan text) ≡ Some n → BreaksAt text n }
-{}
+/// Reads a method descriptor: `(`, field descriptors whose units are at most 255, `)`, and a field descriptor or `V`.
+/// A field descriptor is a letter of `BCDFIJSZ`, or `L`, one or more bytes other than `;`, and `;`, or 1 to 255 times
+/// `[` before one of these (JVMS 4.3.2, 4.3.3). Whether the name of a class is well formed is no question here.
+///
+/// Takes one pass over the text, and no memory.
+pub fn read_descriptor(text: &[u8]) -> Result<DescSpan, DescFault>
+    ensures found { IfOk result (λ span. Spans text.now span) }
+    ensures breaks { IfErr result (λ fault. FaultAt text.now fault) }
+    ensures exact { result ≡ descriptor_of text.now }
+{
+    match scan(text) {
+        Ok(state) => ended(state, text.len()),
+        Err(at) => Err(fault_at(at)),
+    }
+}

@@ -1,6 +1,6 @@
 //! The values that every layer speaks of: names, views of class files, and lists of them. In specs/ stand the public
-//! definitions: what a class file is and which first fault other bytes have, what a method descriptor is, and how
-//! names are escaped. The crate stands on the words of formats alone.
+//! definitions: what a class file is and which first fault other bytes have, what a method descriptor is and where other
+//! bytes break, which views are valid, and how names are escaped. The crate stands on the words of formats alone.
 #![tactic(auto)]
 
 mod descriptor;
@@ -10,13 +10,17 @@ mod fault;
 mod items;
 mod memory;
 mod name;
+#[cfg(test)]
+mod tests;
+mod valid;
 mod view;
 
-pub use descriptor::{DescState, scan_text};
+pub use descriptor::{DescFault, DescSpan, read_descriptor};
 pub use entry::{Entry, Placed};
 pub use escaping::{Place, escape, push_escaped};
 pub use fault::{ClassFault, ClassRule, at_index, fault_at};
 pub use items::{Bytes, Fields, Items, Methods, Names, Sites, Views};
 pub use memory::NoMemory;
 pub use name::Name;
+pub use valid::is_valid;
 pub use view::{Field, HandleKind, Method, Ref, Site, SiteKind, View};

@@ -1,0 +1,135 @@
+use crate::descriptor::{DescFault, DescSpan, read_descriptor};
+use crate::escaping::{Place, escape};
+use crate::items::Items;
+use crate::name::Name;
+use crate::valid::is_valid;
+use crate::view::{Method, View};
+use std::alloc::{AllocError, Global};
+use std::test::Fail;
+
+// A text with one byte many times in its middle.
+fn repeated(
+    alloc: Global,
+    front: &str,
+    byte: u8,
+    count: usize,
+    back: &str,
+) -> Result<Vec<u8>, AllocError> {
+    let mut text = Vec::new(alloc);
+    text.extend_from_slice(front.as_bytes())?;
+    for _ in 0..count {
+        text.push(byte)?;
+    }
+    text.extend_from_slice(back.as_bytes())?;
+    Ok(text)
+}
+
+// The numbers are the parameters, their units and the place of the result.
+#[test]
+fn reads_descriptors(rt: HostRuntime) -> Result<(), Fail> {
+    for (front, byte, count, back, parameters, units, result_at) in [
+        ("()V", b'I', 0, "", 0, 0, 2),
+        ("(IJ[D)V", b'I', 0, "", 3, 4, 6),
+        ("(BCDFIJSZ)[Z", b'I', 0, "", 8, 10, 10),
+        ("(Lp/A;[[Lp/B;D)Lp/C;", b'I', 0, "", 3, 4, 15),
+        ("(La)b;)V", b'I', 0, "", 1, 1, 7),
+        ("(", b'[', 255, "I)V", 1, 1, 258),
+        ("()", b'[', 255, "I", 0, 0, 2),
+        ("(", b'I', 255, ")V", 255, 255, 257),
+        ("(", b'I', 253, "J)V", 254, 255, 256),
+    ] {
+        let text = repeated(rt.alloc(), front, byte, count, back)?;
+        let want = DescSpan {
+            parameters,
+            units,
+            result_at,
+        };
+        assert_eq!(rt;
+            read_descriptor(&text),
+            Ok(want),
+            "at {front} {count} {back}"
+        );
+    }
+    Ok(())
+}
+
+#[test]
+fn tells_where_descriptors_break(rt: HostRuntime) -> Result<(), Fail> {
+    for (front, byte, count, back, offset) in [
+        ("", b'I', 0, "", 0),
+        ("(", b'I', 0, "", 1),
+        ("()", b'I', 0, "", 2),
+        ("(V)V", b'I', 0, "", 1),
+        ("(L;)V", b'I', 0, "", 2),
+        ("()VV", b'I', 0, "", 3),
+        ("()Lp/C", b'I', 0, "", 6),
+        ("()Lp/C;V", b'I', 0, "", 7),
+        ("(", b'I', 254, "J)V", 255),
+        ("(", b'I', 255, "[", 256),
+        ("(", b'[', 256, "I)V", 256),
+        ("()", b'[', 256, "I", 257),
+    ] {
+        let text = repeated(rt.alloc(), front, byte, count, back)?;
+        assert_eq!(rt;
+            read_descriptor(&text),
+            Err(DescFault { offset }),
+            "at {front} {count} {back}"
+        );
+    }
+    Ok(())
+}
+
+#[test]
+fn escapes_names(rt: HostRuntime) -> Result<(), Fail> {
+    let name = b"azAZ09_-$./();[%<\x00 \xff";
+    for (place, want) in [
+        (Place::Class, "azAZ09_-$%2E/%28%29%3B%5B%25%3C%00%20%FF"),
+        (Place::Member, "azAZ09_-$%2E%2F%28%29%3B%5B%25%3C%00%20%FF"),
+        (Place::Desc, "azAZ09_-$%2E/();[%25%3C%00%20%FF"),
+    ] {
+        let text = escape(rt.alloc(), name, place)?;
+        assert_eq!(rt; text.as_slice(), want.as_bytes());
+    }
+    Ok(())
+}
+
+#[test]
+fn keeps_names_and_items(rt: HostRuntime) -> Result<(), Fail> {
+    let name = Name::from_slice(rt.alloc(), b"<init>")?;
+    let copy = name.clone()?;
+    assert_eq!(rt; copy.as_slice(), b"<init>".as_slice());
+    let items = Items::from(vec![in rt.alloc(); 3u8, 1, 2]?);
+    assert_eq!(rt; items.as_slice(), [3, 1, 2].as_slice());
+    assert_eq!(rt; items.into_vec().len(), 3);
+    Ok(())
+}
+
+// A view of a type `A` whose methods have these names and descriptors.
+fn view_of(alloc: Global, methods: &[(&str, &str)]) -> Result<View, Fail> {
+    let mut all = Vec::new(alloc);
+    for (name, desc) in methods {
+        all.push(Method {
+            name: Name::from_slice(alloc, name.as_bytes())?,
+            desc: Name::from_slice(alloc, desc.as_bytes())?,
+            flags: 0,
+            sites: Items::from(Vec::new(alloc)),
+        })?;
+    }
+    Ok(View {
+        name: Name::from_slice(alloc, b"A")?,
+        flags: 0x21,
+        superclass: Some(Name::from_slice(alloc, b"java/lang/Object")?),
+        interfaces: Items::from(Vec::new(alloc)),
+        fields: Items::from(Vec::new(alloc)),
+        methods: Items::from(all),
+    })
+}
+
+#[test]
+fn tells_valid_views(rt: HostRuntime) -> Result<(), Fail> {
+    let apart = view_of(rt.alloc(), &[("f", "()V"), ("f", "(I)V"), ("g", "()V")])?;
+    assert!(rt; is_valid(&apart));
+    let alike = view_of(rt.alloc(), &[("f", "()V"), ("g", "()V"), ("f", "()V")])?;
+    assert!(rt; !is_valid(&alike));
+    Ok(())
+}

@@ -1,0 +1,129 @@
+//! Which views are valid.
+ghost use Rattle.std.specs.Prelude.{◌≡◌, ◌↔◌, ◌≤◌, IsTrue, All, false};
+ghost use Rattle.std.specs.List.{IsDistinct};
+ghost use Rattle.fcg_views.specs.Breaks.Words.{is_alike};
+ghost use Rattle.fcg_views.specs.Valid.{IsShort, IsShortOrNone, IsTable, HasShortNames, IsValidField, IsValidMethod, IsValid, site_count};
+
+use crate::name::Name;
+use crate::view::{Field, Method, Site, View};
+
+// The most that two bytes count.
+const MOST: usize = 65_535;
+
+// The most sites of a view.
+const MOST_SITES: usize = 1_000_000;
+
+fn is_short(name: &Name) -> bool
+    ensures { IsTrue result ↔ IsShort name.now }
+{
+    name.as_slice().len() <= MOST
+}
+
+fn has_short_superclass(view: &View) -> bool
+    ensures { IsTrue result ↔ IsShortOrNone view.now.superclass }
+{
+    match &view.superclass {
+        Some(name) => is_short(name),
+        None => true,
+    }
+}
+
+fn has_short_names(site: &Site) -> bool
+    ensures { IsTrue result ↔ HasShortNames site.now }
+{
+    is_short(&site.target.owner) && is_short(&site.target.name) && is_short(&site.target.desc)
+}
+
+fn is_valid_field(field: &Field) -> bool
+    ensures { IsTrue result ↔ IsValidField field.now }
+{
+    is_short(&field.name) && is_short(&field.desc)
+}
+
+fn is_valid_method(method: &Method) -> bool
+    ensures { IsTrue result ↔ IsValidMethod method.now }
+{
+    is_short(&method.name)
+        && is_short(&method.desc)
+        && method.sites.as_slice().iter().all(has_short_names)
+}
+
+fn has_valid_interfaces(view: &View) -> bool
+    ensures { IsTrue result ↔ IsTable IsShort view.now.interfaces }
+{
+    let interfaces = view.interfaces.as_slice();
+    interfaces.len() <= MOST && interfaces.iter().all(is_short)
+}
+
+fn has_valid_fields(view: &View) -> bool
+    ensures { IsTrue result ↔ IsTable IsValidField view.now.fields }
+{
+    let fields = view.fields.as_slice();
+    fields.len() <= MOST && fields.iter().all(is_valid_field)
+}
+
+fn has_valid_methods(view: &View) -> bool
+    ensures { IsTrue result ↔ IsTable IsValidMethod view.now.methods }
+{
+    let methods = view.methods.as_slice();
+    methods.len() <= MOST && methods.iter().all(is_valid_method)
+}
+
+// Whether two methods have one name and one descriptor.
+fn is_alike(one: &Method, other: &Method) -> bool
+    ensures { result ≡ is_alike one.now other.now }
+{
+    one.name == other.name && one.desc == other.desc
+}
+
+// Whether a method is alike to none of the others.
+fn is_alone(method: &Method, others: &[Method]) -> bool
+    ensures { IsTrue result ↔ All (λ other. is_alike method.now other ≡ false) others.now }
+{
+    others.iter().all(|other| !is_alike(method, other))
+}
+
+// Whether no method is alike to one after it.
+fn are_distinct(methods: &[Method]) -> bool
+    ensures { IsTrue result ↔ IsDistinct is_alike methods.now }
+{
+    let mut rest = methods;
+    while let Some((method, others)) = rest.split_first() {
+        if !is_alone(method, others) {
+            return false;
+        }
+        rest = others;
+    }
+    true
+}
+
+fn has_few_sites(methods: &[Method]) -> bool
+    ensures { IsTrue result ↔ (site_count methods.now ≤ 1000000) }
+{
+    let mut room = MOST_SITES;
+    for method in methods {
+        match room.checked_sub(method.sites.as_slice().len()) {
+            Some(left) => room = left,
+            None => return false,
+        }
+    }
+    true
+}
+
+/// Whether a view is one that a class file could have (JVMS 4.1): its lists of interfaces, fields and methods have at
+/// most 65,535 items each, and each name and descriptor at most 65,535 bytes; no two methods have one name and one
+/// descriptor (JVMS 4.6); and its methods have at most 1,000,000 sites in all.
+///
+/// Takes no memory, and so compares the methods pair by pair: the time grows with the square of their number, beside
+/// one pass over the view.
+pub fn is_valid(view: &View) -> bool
+    ensures { IsTrue result ↔ IsValid view.now }
+{
+    is_short(&view.name)
+        && has_short_superclass(view)
+        && has_valid_interfaces(view)
+        && has_valid_fields(view)
+        && has_valid_methods(view)
+        && has_few_sites(view.methods.as_slice())
+        && are_distinct(view.methods.as_slice())
+}

@@ -14,7 +14,7 @@ use crate::number::{read_part, read_u2, read_u4};
 use crate::pool::Pool;
 use crate::text::{Text, find_text};
 use fcg_grammar::ReadError;
-use fcg_views::{ClassFault, ClassRule, Method, Methods, NoMemory, Sites, fault_at, scan_text, DescState};
+use fcg_views::{ClassFault, ClassRule, Method, Methods, NoMemory, Sites, fault_at, read_descriptor};
 use std::alloc::Global;
 
 // Whether an attribute of this name is passed over.
@@ -78,7 +78,7 @@ struct Declared<'a> {
 fn is_descriptor(text: &[u8]) -> bool
     ensures { result ≡ is_descriptor text.now }
 {
-    scan_text(text) == Ok(DescState::Done)
+    read_descriptor(text).is_ok()
 }
 
 // The flags, the name and the descriptor of the method that stands at a place.

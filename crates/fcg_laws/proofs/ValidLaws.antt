@@ -1,6 +1,8 @@
 -- The view of a class file is valid.
 use Rattle.std.proofs.Common.{◌≡◌, ℕ, zero, suc, ◌^◌, ◌≤◌, ◌<◌, List, [], ◌∷◌, length, Option, Some, None, refl, sym, ap, subst, arith}
-use Rattle.std.specs.List.{slice_get, AllByRecursion, AllZip}
+use Rattle.std.specs.List.{slice_get, All, AllByRecursion, AllZip}
+use Rattle.std.proofs.lemmas.List.Elements.{All-nil}
+use Rattle.std.proofs.lemmas.List.Sums.{sum_by-cons}
 use Rattle.fcg_views.specs.declared.view.View.{View}
 use Rattle.fcg_views.specs.declared.view.Field.{Field}
 use Rattle.fcg_views.specs.declared.view.Method.{Method}
@@ -21,6 +23,11 @@ zip_many R [] (x ∷ xs) z = absurd z
 zip_many R (c ∷ cs) [] z = absurd z
 zip_many R (c ∷ cs) (x ∷ xs) z = ap suc (zip_many R cs xs z.1)
 
+each_all : {X : Type 0} (P : X → Type 0) (xs : List X) → AllByRecursion P xs → All P xs
+each_all P [] each k d lt = absurd (omega arith)
+each_all P (x ∷ xs) each zero d lt = each.0
+each_all P (x ∷ xs) each (suc k) d lt = each_all P xs each.1 k d (omega arith)
+
 zip_right : {C X : Type 0} (R : C → X → Type 0) (P : X → Type 0) → ((c : C) (x : X) → R c x → P x) → (cs : List C) (xs : List X) → AllZip R cs xs → AllByRecursion P xs
 zip_right R P h [] [] z = tt
 zip_right R P h [] (x ∷ xs) z = absurd z
@@ -28,13 +35,14 @@ zip_right R P h (c ∷ cs) [] z = absurd z
 zip_right R P h (c ∷ cs) (x ∷ xs) z = (h c x z.0, zip_right R P h cs xs z.1)
 
 table_is : {C X : Type 0} (R : C → X → Type 0) (P : X → Type 0) → ((c : C) (x : X) → R c x → P x) → (cs : List C) (xs : List X) → length cs < 2 ^ 16 → AllZip R cs xs → IsTable P xs
-table_is R P h cs xs few z = let many = zip_many R cs xs z in (omega arith, zip_right R P h cs xs z)
+table_is R P h cs xs few z = let many = zip_many R cs xs z in (omega arith, each_all P xs (zip_right R P h cs xs z))
 
 no_sites : (ms : List Method) → AllByRecursion (λ m. m.sites ≡ []) ms → site_count ms ≡ 0
 no_sites [] none = refl
 no_sites (m ∷ ms) none =
     let here : length m.sites ≡ 0 = ap length none.0 in
     let others = no_sites ms none.1 in
+    let sum = sum_by-cons (λ (n : Method). length n.sites) m ms in
     omega arith
 
 few_sites : (ms : List Method) → AllByRecursion (λ m. m.sites ≡ []) ms → site_count ms ≤ 1000000
@@ -53,7 +61,7 @@ module _ (cs : List Constant) (fit : AllByRecursion Fits cs) where
   short_super i (Some name) is = short_type i name is.1
 
   valid_method : (c : MethodInfo) (m : Method) → IsMethodOf cs c m → IsValidMethod m
-  valid_method c m is = (short c.name m.name is.name, short c.desc m.desc is.desc, subst (λ (s : List Site). AllByRecursion HasShortNames s) (sym is.sites) tt)
+  valid_method c m is = (short c.name m.name is.name, short c.desc m.desc is.desc, subst (λ (s : List Site). All HasShortNames s) (sym is.sites) (All-nil HasShortNames))
 
 pub reads_valid : (bytes : List ℕ) (v : View) → Reads bytes v → IsValid v
 reads_valid bytes v r =
@@ -65,7 +73,7 @@ reads_valid bytes v r =
       name = short_type pool fit c.this v.name is.name;
       superclass = short_super pool fit c.super v.superclass is.super;
       interfaces = table_is (NamesType pool) IsShort (short_type pool fit) c.interfaces v.interfaces is.few_interfaces is.interfaces;
-      fields = subst (λ (f : List Field). IsTable IsValidField f) (sym is.fields) (omega arith, tt);
+      fields = subst (λ (f : List Field). IsTable IsValidField f) (sym is.fields) (omega arith, All-nil IsValidField);
       methods = table_is (IsMethodOf pool) IsValidMethod (valid_method pool fit) c.methods v.methods is.few_methods is.methods;
       distinct = is.distinct;
       few_sites = few_sites v.methods (zip_right (IsMethodOf pool) (λ m. m.sites ≡ []) (λ i m k. k.sites) c.methods v.methods is.methods);

@@ -4,6 +4,8 @@
 
 mod command;
 mod status;
+#[cfg(test)]
+mod tests;
 mod text;
 mod words;
 

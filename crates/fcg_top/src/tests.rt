@@ -1,0 +1,198 @@
+//! What no clause says: that a run succeeds where there is memory, what it prints, and what is left where a read or a
+//! write fails in mid-stream.
+ghost use Rattle.std.specs.Prelude.{None};
+ghost use Rattle.fcg_bytes.specs.Objects.{aside_of_none};
+
+use crate::{Status, run};
+use fcg_bytes::{Failed, MemorySink, MemorySource, Sink};
+use fcg_views::NoMemory;
+use std::alloc::{AllocError, Global};
+use std::test::Fail;
+
+// The bundle of the smallest class file, an interface `I`.
+const SMALLEST: [u8; 76] = [
+    0x46, 0x43, 0x47, 0x42, 0x00, 0x01, 0x00, 0x00, 0x00, 0x01, 0x00, 0x07, 0x49, 0x2e, 0x63, 0x6c,
+    0x61, 0x73, 0x73, 0x00, 0x00, 0x00, 0x35, 0xca, 0xfe, 0xba, 0xbe, 0x00, 0x00, 0x00, 0x41, 0x00,
+    0x05, 0x01, 0x00, 0x01, 0x49, 0x07, 0x00, 0x01, 0x01, 0x00, 0x10, 0x6a, 0x61, 0x76, 0x61, 0x2f,
+    0x6c, 0x61, 0x6e, 0x67, 0x2f, 0x4f, 0x62, 0x6a, 0x65, 0x63, 0x74, 0x07, 0x00, 0x03, 0x06, 0x01,
+    0x00, 0x02, 0x00, 0x04, 0x00, 0x00, 0x00, 0x00, 0x00, 0x00, 0x00, 0x00,
+];
+
+// A bundle of an interface `p/Q` with two methods, attributes and a signature, as `javac` makes it.
+const METHODS: [u8; 337] = [
+    0x46, 0x43, 0x47, 0x42, 0x00, 0x01, 0x00, 0x00, 0x00, 0x01, 0x00, 0x09, 0x70, 0x2f, 0x51, 0x2e,
+    0x63, 0x6c, 0x61, 0x73, 0x73, 0x00, 0x00, 0x01, 0x38, 0xca, 0xfe, 0xba, 0xbe, 0x00, 0x00, 0x00,
+    0x3d, 0x00, 0x11, 0x07, 0x00, 0x02, 0x01, 0x00, 0x03, 0x70, 0x2f, 0x51, 0x07, 0x00, 0x04, 0x01,
+    0x00, 0x10, 0x6a, 0x61, 0x76, 0x61, 0x2f, 0x6c, 0x61, 0x6e, 0x67, 0x2f, 0x4f, 0x62, 0x6a, 0x65,
+    0x63, 0x74, 0x01, 0x00, 0x02, 0x67, 0x6f, 0x01, 0x00, 0x29, 0x28, 0x49, 0x5b, 0x4a, 0x4c, 0x6a,
+    0x61, 0x76, 0x61, 0x2f, 0x6c, 0x61, 0x6e, 0x67, 0x2f, 0x53, 0x74, 0x72, 0x69, 0x6e, 0x67, 0x3b,
+    0x29, 0x4c, 0x6a, 0x61, 0x76, 0x61, 0x2f, 0x6c, 0x61, 0x6e, 0x67, 0x2f, 0x4f, 0x62, 0x6a, 0x65,
+    0x63, 0x74, 0x3b, 0x01, 0x00, 0x0a, 0x45, 0x78, 0x63, 0x65, 0x70, 0x74, 0x69, 0x6f, 0x6e, 0x73,
+    0x07, 0x00, 0x09, 0x01, 0x00, 0x13, 0x6a, 0x61, 0x76, 0x61, 0x2f, 0x6c, 0x61, 0x6e, 0x67, 0x2f,
+    0x45, 0x78, 0x63, 0x65, 0x70, 0x74, 0x69, 0x6f, 0x6e, 0x01, 0x00, 0x09, 0x53, 0x69, 0x67, 0x6e,
+    0x61, 0x74, 0x75, 0x72, 0x65, 0x01, 0x00, 0x1a, 0x28, 0x49, 0x5b, 0x4a, 0x4c, 0x6a, 0x61, 0x76,
+    0x61, 0x2f, 0x6c, 0x61, 0x6e, 0x67, 0x2f, 0x53, 0x74, 0x72, 0x69, 0x6e, 0x67, 0x3b, 0x29, 0x54,
+    0x54, 0x3b, 0x01, 0x00, 0x05, 0xc3, 0xa9, 0x74, 0xc3, 0xa9, 0x01, 0x00, 0x03, 0x28, 0x29, 0x56,
+    0x01, 0x00, 0x28, 0x3c, 0x54, 0x3a, 0x4c, 0x6a, 0x61, 0x76, 0x61, 0x2f, 0x6c, 0x61, 0x6e, 0x67,
+    0x2f, 0x4f, 0x62, 0x6a, 0x65, 0x63, 0x74, 0x3b, 0x3e, 0x4c, 0x6a, 0x61, 0x76, 0x61, 0x2f, 0x6c,
+    0x61, 0x6e, 0x67, 0x2f, 0x4f, 0x62, 0x6a, 0x65, 0x63, 0x74, 0x3b, 0x01, 0x00, 0x0a, 0x53, 0x6f,
+    0x75, 0x72, 0x63, 0x65, 0x46, 0x69, 0x6c, 0x65, 0x01, 0x00, 0x06, 0x51, 0x2e, 0x6a, 0x61, 0x76,
+    0x61, 0x06, 0x01, 0x00, 0x01, 0x00, 0x03, 0x00, 0x00, 0x00, 0x00, 0x00, 0x02, 0x04, 0x01, 0x00,
+    0x05, 0x00, 0x06, 0x00, 0x02, 0x00, 0x07, 0x00, 0x00, 0x00, 0x04, 0x00, 0x01, 0x00, 0x08, 0x00,
+    0x0a, 0x00, 0x00, 0x00, 0x02, 0x00, 0x0b, 0x04, 0x01, 0x00, 0x0c, 0x00, 0x0d, 0x00, 0x00, 0x00,
+    0x02, 0x00, 0x0a, 0x00, 0x00, 0x00, 0x02, 0x00, 0x0e, 0x00, 0x0f, 0x00, 0x00, 0x00, 0x02, 0x00,
+    0x10,
+];
+
+// What a run over memory left.
+#[derive(Drop)]
+struct Outcome {
+    status: Status,
+    output: MemorySink,
+    errors: MemorySink,
+}
+
+// A sink that takes five bytes a call at most, and fails at its third.
+#[derive(Drop)]
+struct Trickle {
+    bytes: Vec<u8>,
+    calls: u64,
+    faults: u64,
+}
+
+impl Sink for Trickle {
+    ghost taken = { λ _. None };
+
+    ghost faults = { λ s. s.faults };
+
+    ghost aside = { λ _. aside_of_none };
+
+    fn write(&mut self, bytes: &[u8]) -> Result<usize, Failed> {
+        let call = self.calls;
+        self.calls = self.calls.saturating_add(1);
+        let count = bytes.len().min(5);
+        if call == 2 || self.bytes.extend_from_slice(&bytes[..count]).is_err() {
+            self.faults = self.faults.saturating_add(1);
+            return Err(Failed);
+        }
+        Ok(count)
+    }
+}
+
+fn words(alloc: Global, word: &str) -> Result<Vec<String>, AllocError> {
+    let mut words = Vec::new(alloc);
+    words.push(String::from_str(alloc, word)?)?;
+    Ok(words)
+}
+
+// Runs a word over bytes in pieces of ten, where the reads with these numbers fail.
+fn run_over(alloc: Global, word: &str, bytes: &[u8], fail: &[u64]) -> Result<Outcome, NoMemory> {
+    let words = words(alloc, word)?;
+    let mut input = MemorySource::new(bytes.to_vec(alloc)?, 10, fail.to_vec(alloc)?);
+    let mut output = MemorySink::new(alloc, 1000, Vec::new(alloc))?;
+    let mut errors = MemorySink::new(alloc, 1000, Vec::new(alloc))?;
+    let status = run(alloc, &words, &mut input, &mut output, &mut errors);
+    Ok(Outcome {
+        status,
+        output,
+        errors,
+    })
+}
+
+#[test]
+fn prints_or_refuses(rt: HostRuntime) -> Result<(), Fail> {
+    let cases = [
+        (
+            "list",
+            SMALLEST.as_slice(),
+            Status::Ok,
+            "type I\ntypes 1 methods 0\n",
+            "",
+        ),
+        (
+            "list",
+            METHODS.as_slice(),
+            Status::Ok,
+            "type p/Q\nmethod go(I[JLjava/lang/String;)Ljava/lang/Object;\nmethod %C3%A9t%C3%A9()V\ntypes 1 methods 2\n",
+            "",
+        ),
+        (
+            "list",
+            b"FCGB\x00\x01\x00\x00\x00\x00".as_slice(),
+            Status::Ok,
+            "types 0 methods 0\n",
+            "",
+        ),
+        (
+            "list",
+            b"FCG".as_slice(),
+            Status::Refused,
+            "",
+            "{\"fault\":\"NotBuilt\"}\n",
+        ),
+        (
+            "list",
+            b"PK\x03\x04".as_slice(),
+            Status::Refused,
+            "",
+            "{\"fault\":\"Jar\"}\n",
+        ),
+        ("sites", SMALLEST.as_slice(), Status::Words, "", "words\n"),
+        ("", SMALLEST.as_slice(), Status::Words, "", "words\n"),
+    ];
+    for (word, bytes, status, output, errors) in cases {
+        let outcome = run_over(rt.alloc(), word, bytes, &[])?;
+        assert_eq!(rt; outcome.status, status, "{word}");
+        assert_eq!(rt; outcome.output.bytes(), output.as_bytes(), "{word}");
+        assert_eq!(rt; outcome.errors.bytes(), errors.as_bytes(), "{word}");
+    }
+    Ok(())
+}
+
+#[test]
+fn a_read_fails(rt: HostRuntime) -> Result<(), Fail> {
+    for call in [0, 3, 8] {
+        let outcome = run_over(rt.alloc(), "list", &SMALLEST, &[call])?;
+        assert_eq!(rt; outcome.status, Status::ReadFailed, "at {call}");
+        assert_eq!(rt; outcome.output.bytes(), b"".as_slice(), "at {call}");
+        assert_eq!(rt;
+            outcome.errors.bytes(),
+            b"read failed\n".as_slice(),
+            "at {call}"
+        );
+    }
+    Ok(())
+}
+
+#[test]
+fn a_write_fails(rt: HostRuntime) -> Result<(), Fail> {
+    let words = words(rt.alloc(), "list")?;
+    let mut input = MemorySource::new(SMALLEST.to_vec(rt.alloc())?, 100, Vec::new(rt.alloc()));
+    let mut output = Trickle {
+        bytes: Vec::new(rt.alloc()),
+        calls: 0,
+        faults: 0,
+    };
+    let mut errors = MemorySink::new(rt.alloc(), 0, Vec::new(rt.alloc()))?;
+    let status = run(rt.alloc(), &words, &mut input, &mut output, &mut errors);
+    assert_eq!(rt; status, Status::WriteFailed);
+    assert_eq!(rt; output.bytes.as_slice(), b"type I\ntyp".as_slice());
+    assert_eq!(rt; errors.bytes(), b"".as_slice());
+    Ok(())
+}
+
+#[test]
+fn above_the_limit(rt: HostRuntime) -> Result<(), Fail> {
+    let words = words(rt.alloc(), "list")?;
+    let bytes = vec![in rt.alloc(); 0u8; 67_108_865]?;
+    let mut input = MemorySource::new(bytes, 1_000_000, Vec::new(rt.alloc()));
+    let mut output = MemorySink::new(rt.alloc(), 100, Vec::new(rt.alloc()))?;
+    let mut errors = MemorySink::new(rt.alloc(), 100, Vec::new(rt.alloc()))?;
+    let status = run(rt.alloc(), &words, &mut input, &mut output, &mut errors);
+    assert_eq!(rt; status, Status::Refused);
+    assert_eq!(rt;
+        errors.bytes(),
+        b"{\"fault\":\"BodyTooLong\",\"limit\":67108864}\n".as_slice()
+    );
+    Ok(())
+}

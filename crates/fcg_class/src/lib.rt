@@ -6,6 +6,7 @@
 mod bundle;
 mod class;
 mod groups;
+mod laws;
 mod members;
 mod methods;
 mod names;
@@ -14,4 +15,5 @@ mod path;
 mod pool;
 mod text;
 
-pub use bundle::BundleFault;
+pub use bundle::{BundleFault, read_bundle};
+pub use laws::one_bundle_verdict;

@@ -21,7 +21,7 @@ zip_many R [] (x ∷ xs) z = absurd z
 zip_many R (c ∷ cs) [] z = absurd z
 zip_many R (c ∷ cs) (x ∷ xs) z = ap suc (zip_many R cs xs z.1)
 
-zip_right : {C X : Type 0} (R : C → X → Type 0) (P : X → Type 0) → ((c : C) (x : X) → R c x → P x) → (cs : List C) (xs : List X) → AllZip R cs xs → AllByRecursion P xs
+pub zip_right : {C X : Type 0} (R : C → X → Type 0) (P : X → Type 0) → ((c : C) (x : X) → R c x → P x) → (cs : List C) (xs : List X) → AllZip R cs xs → AllByRecursion P xs
 zip_right R P h [] [] z = tt
 zip_right R P h [] (x ∷ xs) z = absurd z
 zip_right R P h (c ∷ cs) [] z = absurd z

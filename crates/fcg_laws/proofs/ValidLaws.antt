@@ -7,6 +7,7 @@ use Rattle.fcg_views.specs.declared.view.Method.{Method}
 use Rattle.fcg_views.specs.declared.view.Site.{Site}
 use Rattle.fcg_views.specs.ClassFile.{Constant, Utf8, MethodInfo}
 use Rattle.fcg_views.specs.Reads.{NamesUtf8, NamesType, NamesSuper, Fits, IsMethodOf, Reads}
+use Rattle.fcg_laws.proofs.WordLaws.{methods_distinct}
 use Rattle.fcg_views.specs.Valid.{IsShort, IsTable, IsShortOrNone, HasShortNames, IsValidField, IsValidMethod, site_count, IsValid}
 
 fits_at : (cs : List Constant) (i : ℕ) (c : Constant) → AllByRecursion Fits cs → slice_get cs i ≡ Some c → Fits c
@@ -67,6 +68,6 @@ reads_valid bytes v r =
       interfaces = table_is (NamesType pool) IsShort (short_type pool fit) c.interfaces v.interfaces is.few_interfaces is.interfaces;
       fields = subst (λ (f : List Field). IsTable IsValidField f) (sym is.fields) (omega arith, tt);
       methods = table_is (IsMethodOf pool) IsValidMethod (valid_method pool fit) c.methods v.methods is.few_methods is.methods;
-      distinct = is.distinct;
+      distinct = methods_distinct v.methods is.distinct;
       few_sites = few_sites v.methods (zip_right (IsMethodOf pool) (λ m. m.sites ≡ []) (λ i m k. k.sites) c.methods v.methods is.methods);
     }

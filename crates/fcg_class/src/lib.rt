@@ -13,6 +13,8 @@ mod names;
 mod number;
 mod path;
 mod pool;
+#[cfg(test)]
+mod tests;
 mod text;
 
 pub use bundle::{BundleFault, read_bundle};

@@ -183,6 +183,13 @@ fn bundles(rt: HostRuntime) -> Result<(), Fail> {
     Ok(())
 }
 
+fn is_not_built(alloc: Global, bytes: &[u8]) -> bool {
+    matches!(
+        read_bundle(alloc, bytes),
+        Err(ReadError::Fault(BundleFault::NotBuilt))
+    )
+}
+
 #[test]
 fn refused_bundles(rt: HostRuntime) -> Result<(), Fail> {
     assert!(rt;
@@ -191,27 +198,12 @@ fn refused_bundles(rt: HostRuntime) -> Result<(), Fail> {
             Err(ReadError::Fault(BundleFault::Jar))
         )
     );
-    assert!(rt;
-        matches!(
-            read_bundle(rt.alloc(), b"FCG"),
-            Err(ReadError::Fault(BundleFault::NotBuilt))
-        )
-    );
+    assert!(rt; is_not_built(rt.alloc(), b"FCG"));
     let mut longer = make_bundle(rt.alloc(), &[b"I.class"])?;
     longer.push(0)?;
-    assert!(rt;
-        matches!(
-            read_bundle(rt.alloc(), &longer),
-            Err(ReadError::Fault(BundleFault::NotBuilt))
-        )
-    );
+    assert!(rt; is_not_built(rt.alloc(), &longer));
     let twice = make_bundle(rt.alloc(), &[b"I.class", b"I.class"])?;
-    assert!(rt;
-        matches!(
-            read_bundle(rt.alloc(), &twice),
-            Err(ReadError::Fault(BundleFault::NotBuilt))
-        )
-    );
+    assert!(rt; is_not_built(rt.alloc(), &twice));
     Ok(())
 }
 
@@ -230,12 +222,7 @@ const BAD_PATHS: [&[u8]; 7] = [
 fn refused_paths(rt: HostRuntime) -> Result<(), Fail> {
     for path in BAD_PATHS {
         let bytes = make_bundle(rt.alloc(), &[path])?;
-        assert!(rt;
-            matches!(
-                read_bundle(rt.alloc(), &bytes),
-                Err(ReadError::Fault(BundleFault::NotBuilt))
-            )
-        );
+        assert!(rt; is_not_built(rt.alloc(), &bytes));
     }
     Ok(())
 }

@@ -1,6 +1,6 @@
 -- Bundles: what is read is spelled so, and what is spelled so is read. So each string of bytes has one content, or one
 -- fault.
-use Rattle.std.proofs.Common.{◌≡◌, ℕ, ◌+◌, ◌^◌, ◌<◌, ◌≤◌, Bool, true, false, cond, not, eqb, leb, ◌&&◌, List, [], ◌∷◌, ◌++◌, length, map, take, drop, refl, sym, ap, subst, ◌∙◌, append_assoc, arith}
+use Rattle.std.proofs.Common.{◌≡◌, ℕ, ◌+◌, ◌^◌, ◌<◌, ◌≤◌, Bool, true, false, cond, not, eqb, leb, ◌&&◌, List, [], ◌∷◌, ◌++◌, length, map, drop, refl, sym, ap, subst, ◌∙◌, append_assoc, arith}
 use Rattle.std.specs.Prelude.{Result, Ok, Err, IfOk}
 use Rattle.std.specs.Bool.{Decides}
 use Rattle.std.specs.List.{flat_map, list_any, All, AllZip}
@@ -16,7 +16,7 @@ use Rattle.fcg_grammar.specs.Number.{u2_at, u4_at, part_at}
 use Rattle.fcg_grammar.specs.Reading.{unless_broken, Gives}
 use Rattle.fcg_grammar.specs.Rows.{rows}
 use Rattle.fcg_grammar.specs.Spell.{IsBytes, u2, u4}
-use Rattle.fcg_grammar.proofs.LawLemmas.{bind_ok, kept_ok, chosen, ok_or_err}
+use Rattle.fcg_grammar.proofs.LawLemmas.{bind_ok, kept_ok, ok_or_err}
 use Rattle.fcg_grammar.proofs.Limits.{IsBytes-take}
 use Rattle.fcg_grammar.proofs.Standing.{Stands, Stands-then, Stands-front, ok_is, u2_found, u2_only, u4_found, u4_only, part_found, part_only, part_is, whole_is, is_whole}
 use Rattle.fcg_grammar.proofs.StateRowLaws.{Linked, FoundRow, rows_found, rows_only}

@@ -1,5 +1,5 @@
 -- The test for a method descriptor against its grammar.
-use Rattle.std.proofs.Common.{◌≡◌, ℕ, true, false, not, List, Option, Some, None, refl}
+use Rattle.std.proofs.Common.{◌≡◌, ℕ, true, not, List, Option, Some, None, refl}
 use Rattle.std.specs.Prelude.{is_some, Result, Ok, Err}
 use Rattle.fcg_views.specs.declared.descriptor.DescState.{DescState}
 use Rattle.fcg_views.specs.declared.descriptor.DescState.TheVariants.{Start, Parameters, Array, Name, Returned, ReturnedArray, ReturnedName, Done}

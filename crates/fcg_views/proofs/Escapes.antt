@@ -5,7 +5,6 @@ use Rattle.std.specs.Prelude.{if◌then◌else◌}
 use Rattle.std.proofs.lemmas.Bool.Decides.{Decides-below_and}
 use Rattle.std.proofs.lemmas.List.Elements.{All-head, All-tail}
 use Rattle.std.proofs.lemmas.Slice.Eq.{bytes_eq-Decides}
-use Rattle.percent_encoding.specs.declared.ascii_set.AsciiSet.{AsciiSet}
 use Rattle.percent_encoding.specs.AsciiSet.{should_percent_encode}
 use Rattle.percent_encoding.specs.Percent.{encode_byte, percent_encode, percent_encode_byte}
 use Rattle.fcg_views.specs.declared.escaping.Place.{Place}

@@ -1,5 +1,5 @@
 -- Attributes and methods (JVMS 4.6, 4.7).
-use Rattle.std.specs.Prelude.{ℕ, ◌+◌, List, [], ◌∷◌, ◌++◌, length, Bool, not, nat_lt, is_ok, Result, Ok, Err}
+use Rattle.std.specs.Prelude.{ℕ, ◌+◌, List, [], ◌∷◌, ◌++◌, length, not, nat_lt, Result, Ok}
 use Rattle.std.specs.List.{list_any}
 use Rattle.fcg_grammar.specs.Reading.{◌>>=◌, unless_broken}
 use Rattle.fcg_grammar.specs.Rows.{rows, ended}

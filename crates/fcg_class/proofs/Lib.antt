@@ -3,3 +3,4 @@ pub mod MethodLemmas
 pub mod PathLemmas
 pub mod EntryLemmas
 pub mod JarLemmas
+pub mod BundleLaws

@@ -1,6 +1,6 @@
 -- Bundles: what they are, and how they are read.
-use Rattle.std.specs.Prelude.{◌≡◌, ℕ, ◌+◌, ◌<◌, ◌^◌, List, [], ◌∷◌, ◌++◌, length, map, Bool, true, not, ◌&&◌, nat_eq, Result, Ok, Err, ◌==◌, if◌then◌else◌}
-use Rattle.std.specs.List.{concat, flat_map, list_any, starts_with, AllZip, IsDistinct}
+use Rattle.std.specs.Prelude.{◌≡◌, ◌≢◌, ℕ, ◌+◌, ◌<◌, ◌^◌, List, [], ◌∷◌, ◌++◌, length, map, Bool, true, not, ◌&&◌, nat_eq, Result, Ok, Err, ◌==◌, if◌then◌else◌}
+use Rattle.std.specs.List.{concat, flat_map, list_any, starts_with, AllPairs, AllZip}
 use Rattle.std.specs.Cmp.Lexicographic.{pointwise}
 use Rattle.fcg_grammar.specs.Spell.{u2, u4}
 use Rattle.fcg_grammar.specs.Number.{u2_at, u4_at, part_at}
@@ -34,16 +34,13 @@ pub record IsEntryOf (e : Entry) (v : View) : Type 0 where
   pub few : length e.body < 2 ^ 32
   pub reads : Reads e.body v
 
-abbrev pub is_same : List ℕ → List ℕ → Bool
-is_same p q = pointwise nat_eq p q
-
 -- The bytes are a bundle, and these are the views of its class files, in its order.
 pub record Content (bytes : List ℕ) (views : List View) : Type 0 where
   pub entries : List Entry
   pub spelled : bytes ≡ bundle entries
   pub few : length entries < 2 ^ 32
   pub each : AllZip IsEntryOf entries views
-  pub distinct : IsDistinct is_same (map (λ e. e.path) entries)
+  pub distinct : AllPairs (λ p q. p ≢ q) (map (λ e. e.path) entries)
 
 -- ==== how they are read: each fault but that of a jar is told alike
 
@@ -64,6 +61,9 @@ body_at bytes at = do
   body ← part_at NotBuilt bytes (at + 4) n
   view ← built (class_of body)
   Ok (view, at + 4 + n)
+
+abbrev pub is_same : List ℕ → List ℕ → Bool
+is_same p q = pointwise nat_eq p q
 
 -- where the next entry stands, and the paths of those before it
 pub record Begun : Type 0 where

@@ -1,9 +1,11 @@
 //! Bundles of class files.
 ghost use Rattle.std.specs.Prelude.{◌≡◌, ◌≤◌, ◌↔◌, ℕ, List, [], length, IfOk, IsTrue, IsErrOf};
+ghost use Rattle.std.specs.List.{All};
 ghost use Rattle.fcg_grammar.specs.Reading.{seen, Gives};
 ghost use Rattle.fcg_grammar.specs.Rows.{rows};
+ghost use Rattle.fcg_views.specs.Valid.{IsValid};
 ghost use Rattle.fcg_class.specs.Entries.{told, begun, ArePaths, GivesEntry, GivesEntries};
-ghost use Rattle.fcg_class.specs.Bundle.{path_at, body_at, entry_at, entries_of, bundle_of, is_jar};
+ghost use Rattle.fcg_class.specs.Bundle.{Content, path_at, body_at, entry_at, entries_of, bundle_of, is_jar};
 
 use crate::class::read_class;
 use crate::path::{is_class_path, is_path};
@@ -137,7 +139,7 @@ fn read_plain(alloc: Global, bytes: &[u8]) -> Result<Views, ReadError<BundleFaul
 }
 
 #[tactic(auto, unfolding(crate::specs::Bundle::bundle_of))]
-pub fn read_bundle(alloc: Global, bytes: &[u8]) -> Result<Views, ReadError<BundleFault>>
+fn read_whole(alloc: Global, bytes: &[u8]) -> Result<Views, ReadError<BundleFault>>
     ensures exact { Gives (λ views. views) result (bundle_of bytes.now) }
     ensures jar { IsErrOf result (ReadError.Fault BundleFault.Jar) ↔ IsTrue (is_jar bytes.now) }
 {
@@ -145,4 +147,28 @@ pub fn read_bundle(alloc: Global, bytes: &[u8]) -> Result<Views, ReadError<Bundl
         return Err(ReadError::Fault(BundleFault::Jar));
     }
     read_plain(alloc, bytes)
+}
+
+/// The views of a bundle's class files, in the bundle's order. A bundle begins with `FCGB`, the version 1 in two bytes
+/// and the number of its entries in four. An entry is a path of two bytes' length, and a class file (JVMS 4) of four
+/// bytes' length. The paths end in `.class`, and no two are equal.
+///
+/// The error is [`BundleFault::Jar`] for bytes that begin as a jar does, and [`BundleFault::NotBuilt`] for all others
+/// that are no bundle, or whose class files have a fault or hold what isn't read yet. It is
+/// [`ReadError::NoMemory`] where memory ran out.
+///
+/// It makes one pass over the bytes. For each entry it makes some comparisons of paths more, about the logarithm of the
+/// number of entries, and likewise for each method of a class file. Beside the views it takes memory for one class
+/// file's pool and for a set of the paths, which stay in the bytes.
+pub fn read_bundle(alloc: Global, bytes: &[u8]) -> Result<Views, ReadError<BundleFault>>
+    // What is read is a bundle with this content.
+    ensures found { IfOk result (Content bytes.now) }
+    // A bundle is read with its content, unless memory runs out.
+    ensures only { (views : List View) → Content bytes.now views → Gives (λ v. v) result (Ok views) }
+    // Which fault it is.
+    ensures exact { Gives (λ views. views) result (bundle_of bytes.now) }
+    ensures jar { IsErrOf result (ReadError.Fault BundleFault.Jar) ↔ IsTrue (is_jar bytes.now) }
+    ensures valid { IfOk result (All IsValid) }
+{
+    read_whole(alloc, bytes)
 }

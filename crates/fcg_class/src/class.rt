@@ -2,6 +2,7 @@
 ghost use Rattle.std.specs.Prelude.{◌≡◌, ◌≤◌, ◌+◌, ℕ, length, OnOk, IfOk};
 ghost use Rattle.fcg_grammar.specs.Reading.{Gives};
 ghost use Rattle.fcg_grammar.specs.Rows.{rows};
+ghost use Rattle.fcg_views.specs.Reads.{Reads};
 ghost use Rattle.fcg_views.specs.Breaks.Class.{header_kept, type_at, super_at, interface_at, interfaces_at, flags_at, fields_at, members_at, body_at, class_of};
 
 use crate::members::{pass_attributes, read_methods};
@@ -196,13 +197,26 @@ fn read_body(
     })
 }
 
-// The view of a class file, or its first fault.
 #[tactic(auto, unfolding(fcg_views::specs::Breaks::Class::class_of))]
-pub fn read_class(alloc: Global, bytes: &[u8]) -> Result<View, ReadError<ClassFault>>
+fn read_whole(alloc: Global, bytes: &[u8]) -> Result<View, ReadError<ClassFault>>
     ensures { Gives (λ view. view) result (class_of bytes.now) }
 {
     read_header(bytes)?;
     let (pool, after) = Pool::read(alloc, bytes, 8)?;
     let mut names = ClassNames::new(alloc, &pool)?;
     read_body(alloc, &mut names, after)
+}
+
+/// The view of a class file (JVMS 4.1), or its first fault in reading order. It makes one pass over the bytes, and for
+/// each method some comparisons more, about the logarithm of the number of methods. It takes memory for the pool's
+/// entries and for the view.
+pub fn read_class(alloc: Global, bytes: &[u8]) -> Result<View, ReadError<ClassFault>>
+    // What is read is a class file with that view.
+    ensures found { IfOk result (Reads bytes.now) }
+    // A class file is read with its view, unless memory runs out.
+    ensures only { (view : View) → Reads bytes.now view → Gives (λ v. v) result (Ok view) }
+    // Which fault it is.
+    ensures exact { Gives (λ view. view) result (class_of bytes.now) }
+{
+    read_whole(alloc, bytes)
 }

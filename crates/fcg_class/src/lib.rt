@@ -6,12 +6,16 @@
 mod bundle;
 mod class;
 mod groups;
+mod laws;
 mod members;
 mod methods;
 mod names;
 mod number;
 mod path;
 mod pool;
+#[cfg(test)]
+mod tests;
 mod text;
 
 pub use bundle::{BundleFault, read_bundle};
+pub use laws::one_bundle_verdict;

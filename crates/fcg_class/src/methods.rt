@@ -46,12 +46,7 @@ impl<'a> MethodTable<'a> {
     }
 
     /// Adds a method of this name and descriptor. Without memory the table is as it was.
-    pub fn push(
-        &mut self,
-        method: Method,
-        name: &'a [u8],
-        desc: &'a [u8],
-    ) -> Result<(), AllocError>
+    pub fn push(&mut self, method: Method, name: &'a [u8], desc: &'a [u8]) -> Result<(), AllocError>
         requires name { method.name ≡ name.now }
         requires desc { method.desc ≡ desc.now }
         ensures ok { OnOk result (self.new ≡ self.old ++ method ∷ []) }

@@ -19,6 +19,7 @@ use Rattle.fcg_views.specs.Breaks.Pool.{Entries, text_of}
 use Rattle.fcg_views.specs.Breaks.Members.{text_at, attribute_at, attributes_at}
 use Rattle.fcg_laws.proofs.Places.{u2_found, u2_only, u4_found, u4_only, part_found, part_only, closed, opened}
 use Rattle.fcg_laws.specs.Meaning.{table_of}
+use Rattle.fcg_laws.proofs.WordLaws.{passed_found, passed_only}
 use Rattle.fcg_laws.proofs.NameLaws.{text_found, text_only, at_ok}
 
 -- what holds of each row
@@ -61,6 +62,7 @@ module _ (pool : Entries) (fits : IsBytes pool.bytes) where
       let b = bind_ok (unless_broken (is_passed a.0) (fault at 0 NotBuilt)) _ x a.2 in
       let c = bind_ok (u4_at pool.bytes (at + 2) 0) _ x b.2 in
       let d = bind_ok (part_at pool.bytes (at + 6) c.0 0) _ x c.2 in
+      let word = passed_found a.0 (kept_ok _ _ b.0 b.1) in
       let name = text_at_found at a.0 a.1 in
       let n = u4_found pool.bytes (at + 2) 0 c.0 fits c.1 in
       let content = part_found pool.bytes (at + 6) c.0 0 d.0 d.1 in
@@ -70,7 +72,7 @@ module _ (pool : Entries) (fits : IsBytes pool.bytes) where
       subst (λ (y : Unit {0} × ℕ). FoundRow pool.bytes attribute Passes (attribute_at pool) at y.0 y.1) (ok_is _ x d.2) (record {
         row = record { name = name.index; content = d.0 };
         stands = whole;
-        meant = record { name = a.0; index = name.few; named = name.named; passed = kept_ok _ _ b.0 b.1; fits = omega (arith, content.1, n.1) };
+        meant = record { name = a.0; index = name.few; named = name.named; no_code = word.0; no_methods = word.1; fits = omega (arith, content.1, n.1) };
       })
 
   attribute_only : (k at : ℕ) (a : Attribute) (rest : List ℕ) (after : ℕ) → IsPassed (table_of pool) a → Stands pool.bytes at (attribute a ++ rest) after → ReadRow pool.bytes attribute Passes (attribute_at pool) k at a
@@ -82,7 +84,7 @@ module _ (pool : Entries) (fits : IsBytes pool.bytes) where
       let s6 = subst (λ (p : ℕ). Stands pool.bytes p (a.content ++ rest) after) (six at) m.1 in
       let c = part_only pool.bytes (at + 6) 0 a.content rest after s6 in
       let ends : at + 6 + length a.content ≡ at + length (attribute a) = omega (arith, ap length (append-nil a.content)) in
-      record { value = tt; read_is = rw (n.0, is.passed, m.0, c.0, ends) refl; meant = is }
+      record { value = tt; read_is = rw (n.0, passed_only is.name is.no_code is.no_methods, m.0, c.0, ends) refl; meant = is }
 
   pub record FoundAttributes (at after : ℕ) : Type 0 where
     pub table : List Attribute

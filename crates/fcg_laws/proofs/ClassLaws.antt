@@ -20,6 +20,7 @@ use Rattle.fcg_views.specs.Breaks.Pool.{Entries, pool_at}
 use Rattle.fcg_views.specs.Breaks.Class.{header_kept, body_at, class_of}
 use Rattle.fcg_laws.proofs.Places.{u2_found, u2_only, u4_found, u4_only}
 use Rattle.fcg_laws.specs.Meaning.{table_of}
+use Rattle.fcg_laws.proofs.WordLaws.{methods_differ, methods_distinct}
 use Rattle.fcg_laws.proofs.NameLaws.{FoundPool, pool_found, pool_only}
 use Rattle.fcg_laws.proofs.BodyLaws.{body_text, IsBody, FoundBody, body_found, body_only}
 
@@ -88,7 +89,7 @@ assembled bytes pool fits after v header p found =
         fields = body.fields;
         few_methods = body.few_methods;
         methods = body.methods_are;
-        distinct = body.distinct;
+        distinct = methods_differ v.methods body.distinct;
         attributes = body.passed;
       };
     }
@@ -121,7 +122,7 @@ body_of c v is = record {
   fields = is.fields;
   few_methods = is.few_methods;
   methods_are = is.methods;
-  distinct = is.distinct;
+  distinct = methods_distinct v.methods is.distinct;
   passed = is.attributes;
 }
 

@@ -1,6 +1,8 @@
--- Members of a list of which no earlier one is alike: said one by one, and of the whole list.
-use Rattle.std.proofs.Common.{◌≡◌, Bool, true, false, ◌||◌, List, [], ◌∷◌, ◌++◌, refl, sym, ap, ◌∙◌}
-use Rattle.std.specs.List.{list_any, AllByRecursion, IsDistinct}
+-- Members of a list of which no earlier one is alike: said one by one, of the whole list, and of each two.
+use Rattle.std.proofs.Common.{◌≡◌, suc, Bool, true, false, ◌||◌, List, [], ◌∷◌, ◌++◌, refl, sym, ap, ◌∙◌, arith}
+use Rattle.std.specs.List.{list_any, All, AllByRecursion, AllPairs, IsDistinct}
+use Rattle.std.proofs.lemmas.List.Elements.{All-from_recursion, recursion_from_All}
+use Rattle.std.proofs.lemmas.List.Kept.{AllPairs-cons}
 use Rattle.std.proofs.lemmas.List.Folds.{list_any-append}
 
 either_false : (a b : Bool) → (a || b) ≡ false → (a ≡ false) × (b ≡ false)
@@ -57,3 +59,21 @@ module _ {X : Type 0} (alike : X → X → Bool) where
 
   pub distinct_only : (xs : List X) → IsDistinct alike xs → AreFresh [] xs
   distinct_only xs d = fresh [] xs (none_earlier xs) d
+
+module _ {X : Type 0} (alike : X → X → Bool) (R : X → X → Type 0) where
+  each_apart : ((x y : X) → alike x y ≡ false → R x y) → (x : X) (ys : List X) → AllByRecursion (λ y. alike x y ≡ false) ys → AllByRecursion (R x) ys
+  each_apart h x [] d = tt
+  each_apart h x (y ∷ ys) d = (h x y d.0, each_apart h x ys d.1)
+
+  pub pairs_found : ((x y : X) → alike x y ≡ false → R x y) → (xs : List X) → IsDistinct alike xs → AllPairs R xs
+  unfolding IsDistinct
+  pairs_found h [] d = λ i j e lt within. absurd (omega arith)
+  pairs_found h (x ∷ xs) d = AllPairs-cons R x xs (All-from_recursion (R x) xs (each_apart h x xs d.0)) (pairs_found h xs d.1)
+
+  pub pairs_only : ((x y : X) → R x y → alike x y ≡ false) → (xs : List X) → AllPairs R xs → IsDistinct alike xs
+  unfolding IsDistinct
+  pairs_only h [] p = tt
+  pairs_only h (x ∷ xs) p =
+      let first : All (λ y. alike x y ≡ false) xs = λ k d within. h x _ (p 0 (suc k) d (omega arith) (omega arith)) in
+      let others : AllPairs R xs = λ i j d lt within. p (suc i) (suc j) d (omega arith) (omega arith) in
+      (recursion_from_All (λ y. alike x y ≡ false) xs first, pairs_only h xs others)

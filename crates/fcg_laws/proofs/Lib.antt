@@ -3,8 +3,9 @@ pub mod GroupLemmas
 pub mod GroupLaws
 pub mod PoolLaws
 pub mod NameLaws
-pub mod AttributeLaws
 pub mod Fresh
+pub mod WordLaws
+pub mod AttributeLaws
 pub mod MethodLaws
 pub mod TypeLaws
 pub mod BodyLaws

@@ -9,6 +9,7 @@ use Rattle.fcg_views.specs.declared.view.Method.{Method}
 use Rattle.fcg_views.specs.declared.view.Site.{Site}
 use Rattle.fcg_views.specs.ClassFile.{Constant, Utf8, MethodInfo}
 use Rattle.fcg_views.specs.Reads.{NamesUtf8, NamesType, NamesSuper, Fits, IsMethodOf, Reads}
+use Rattle.fcg_laws.proofs.WordLaws.{methods_distinct}
 use Rattle.fcg_views.specs.Valid.{IsShort, IsTable, IsShortOrNone, HasShortNames, IsValidField, IsValidMethod, site_count, IsValid}
 
 fits_at : (cs : List Constant) (i : ℕ) (c : Constant) → AllByRecursion Fits cs → slice_get cs i ≡ Some c → Fits c
@@ -28,7 +29,7 @@ each_all P [] each k d lt = absurd (omega arith)
 each_all P (x ∷ xs) each zero d lt = each.0
 each_all P (x ∷ xs) each (suc k) d lt = each_all P xs each.1 k d (omega arith)
 
-zip_right : {C X : Type 0} (R : C → X → Type 0) (P : X → Type 0) → ((c : C) (x : X) → R c x → P x) → (cs : List C) (xs : List X) → AllZip R cs xs → AllByRecursion P xs
+pub zip_right : {C X : Type 0} (R : C → X → Type 0) (P : X → Type 0) → ((c : C) (x : X) → R c x → P x) → (cs : List C) (xs : List X) → AllZip R cs xs → AllByRecursion P xs
 zip_right R P h [] [] z = tt
 zip_right R P h [] (x ∷ xs) z = absurd z
 zip_right R P h (c ∷ cs) [] z = absurd z
@@ -75,6 +76,6 @@ reads_valid bytes v r =
       interfaces = table_is (NamesType pool) IsShort (short_type pool fit) c.interfaces v.interfaces is.few_interfaces is.interfaces;
       fields = subst (λ (f : List Field). IsTable IsValidField f) (sym is.fields) (omega arith, All-nil IsValidField);
       methods = table_is (IsMethodOf pool) IsValidMethod (valid_method pool fit) c.methods v.methods is.few_methods is.methods;
-      distinct = is.distinct;
+      distinct = methods_distinct v.methods is.distinct;
       few_sites = few_sites v.methods (zip_right (IsMethodOf pool) (λ m. m.sites ≡ []) (λ i m k. k.sites) c.methods v.methods is.methods);
     }

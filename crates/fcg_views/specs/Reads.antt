@@ -1,12 +1,11 @@
 -- What it means that bytes are a class file with a view (JVMS 4). Read besides: which first fault they have instead.
-use Rattle.std.specs.Prelude.{◌≡◌, ℕ, zero, suc, ◌+◌, ◌<◌, ◌≤◌, ◌^◌, List, [], ◌∷◌, length, true, Option, Some, None, Err}
-use Rattle.std.specs.List.{flat_map, slice_get, AllByRecursion, AllZip, IsDistinct}
+use Rattle.std.specs.Prelude.{◌≡◌, ◌≢◌, ℕ, zero, suc, ◌+◌, ◌<◌, ◌≤◌, ◌^◌, List, [], ◌∷◌, length, codes, Option, Some, None, Err}
+use Rattle.std.specs.List.{flat_map, slice_get, AllByRecursion, AllPairs, AllZip}
 use Rattle.fcg_views.specs.declared.view.View.{View}
 use Rattle.fcg_views.specs.declared.view.Method.{Method}
 use Rattle.fcg_views.specs.declared.fault.ClassFault.{ClassFault}
 use Rattle.fcg_views.specs.ClassFile.{Constant, Utf8, Class, Attribute, MethodInfo, ClassFile, spelling}
 use Rattle.fcg_views.specs.Descriptor.{IsDescriptor}
-use Rattle.fcg_views.specs.Breaks.Words.{is_passed, is_alike}
 use Rattle.fcg_views.specs.Breaks.Class.{class_of}
 
 -- modified UTF-8 (4.4.7): 01 to 7f; c0 to df and one of 80 to bf; e0 to ef and two of these
@@ -57,11 +56,13 @@ abbrev pub NamesSuper : List Constant → ℕ → Option (List ℕ) → Type 0
 NamesSuper pool index None = index ≡ 0
 NamesSuper pool index (Some name) = (0 < index) × NamesType pool index name
 
+-- an attribute that is passed over; those of two names aren't read yet
 pub record IsPassed (pool : List Constant) (a : Attribute) : Type 0 where
   pub name : List ℕ
   pub index : a.name < 2 ^ 16
   pub named : NamesUtf8 pool a.name name
-  pub passed : is_passed name ≡ true
+  pub no_code : name ≢ codes "Code"
+  pub no_methods : name ≢ codes "BootstrapMethods"
   pub fits : length a.content < 2 ^ 32
 
 pub record ArePassed (pool : List Constant) (attributes : List Attribute) : Type 0 where
@@ -95,7 +96,8 @@ pub record IsViewOf (c : ClassFile) (v : View) : Type 0 where
   pub fields : v.fields ≡ []
   pub few_methods : length c.methods < 2 ^ 16
   pub methods : AllZip (IsMethodOf c.pool) c.methods v.methods
-  pub distinct : IsDistinct is_alike v.methods
+  -- no two methods have one name and one descriptor (4.6)
+  pub distinct : AllPairs (λ m n. m.name ≡ n.name → m.desc ≢ n.desc) v.methods
   pub attributes : ArePassed c.pool c.attributes
 
 -- the bytes are a class file, and it has this view

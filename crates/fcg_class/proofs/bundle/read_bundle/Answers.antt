@@ -1,9 +1,13 @@
-use Rattle.std.proofs.Common.{Bool, false, IsTrue, subst, sym, ◌∙◌}
-use Rattle.fcg_class.proofs.JarLemmas.{no_jar}
+use Rattle.std.proofs.Common.{subst, arith}
+use Rattle.fcg_grammar.specs.Reading.{Gives}
+use Rattle.fcg_class.proofs.BundleLaws.{is_found, is_valid, content_only}
 use Rattle.fcg_class.proofs.bundle.read_bundle.Goals as goal
 
-pub returns-clause-jar : goal.returns-clause-jar
-returns-clause-jar c = (
-  λ is. absurd (no_jar c.args.bytes.now c.read_plain.result c.read_plain.ensures is),
-  λ is. (let bad : IsTrue false = subst (λ (b : Bool). IsTrue b) (sym c.starts_with.ensures.value ∙ c.if-starts_with.false) is in cc),
-)
+pub returns-clause-found : goal.returns-clause-found
+returns-clause-found c = is_found c.args.bytes.now c.read_whole.result (λ i. omega (arith, c.type_inv.bytes i)) c.read_whole.ensures.exact
+
+pub returns-clause-only : goal.returns-clause-only
+returns-clause-only c = λ views content. subst (λ f. Gives (λ v. v) c.read_whole.result f) (content_only c.args.bytes.now views (λ i. omega (arith, c.type_inv.bytes i)) content) c.read_whole.ensures.exact
+
+pub returns-clause-valid : goal.returns-clause-valid
+returns-clause-valid c = is_valid c.args.bytes.now c.read_whole.result (λ i. omega (arith, c.type_inv.bytes i)) c.read_whole.ensures.exact

@@ -1,4 +1,4 @@
-use Rattle.std.proofs.Common.{◌≡◌, List, ℕ, [], ◌++◌, ◌∷◌, sym}
+use Rattle.std.proofs.Common.{[]}
 use Rattle.std.proofs.lemmas.Result.{err_from_is_err_and}
 use Rattle.fcg_grammar.proofs.RowLemmas.{rows_fail, rows_done}
 use Rattle.fcg_class.specs.Bundle.{entry_at}

@@ -1,7 +1,7 @@
-use Rattle.std.proofs.Common.{◌∙◌, ap}
+use Rattle.std.proofs.Common.{◌∙◌}
 use Rattle.std.proofs.lemmas.Result.{err_from_is_err_and}
 use Rattle.fcg_views.specs.Breaks.Class.{interface_at}
-use Rattle.fcg_grammar.proofs.RowLemmas.{rows_go_on, rows_fail, rows_done}
+use Rattle.fcg_grammar.proofs.RowLemmas.{rows_go_on, rows_fail}
 use Rattle.fcg_class.proofs.class.read_interface_rows.Goals as goal
 
 pub returns-in_err-name-clause-value : goal.returns-in_err-name-clause-value

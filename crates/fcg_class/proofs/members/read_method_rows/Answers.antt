@@ -1,8 +1,4 @@
-use Rattle.std.proofs.Common.{◌∙◌, ap}
-use Rattle.std.proofs.lemmas.Result.{err_from_is_err_and}
-use Rattle.fcg_grammar.proofs.RowLemmas.{rows_fail, rows_done}
-use Rattle.fcg_views.specs.Breaks.Members.{method_at}
-use Rattle.fcg_class.specs.Members.{begun}
+use Rattle.std.proofs.Common.{◌∙◌}
 use Rattle.fcg_class.proofs.MethodLemmas.{row_more}
 use Rattle.fcg_class.proofs.members.read_method_rows.Goals as goal
 

@@ -1,0 +1,284 @@
+-- Bundles: what is read is spelled so, and what is spelled so is read. So each string of bytes has one content, or one
+-- fault.
+use Rattle.std.proofs.Common.{◌≡◌, ℕ, ◌+◌, ◌^◌, ◌<◌, ◌≤◌, Bool, true, false, cond, not, eqb, leb, ◌&&◌, List, [], ◌∷◌, ◌++◌, length, map, drop, refl, sym, ap, subst, ◌∙◌, append_assoc, arith}
+use Rattle.std.specs.Prelude.{Result, Ok, Err, IfOk}
+use Rattle.std.specs.Bool.{Decides}
+use Rattle.std.specs.List.{flat_map, list_any, All, AllZip}
+use Rattle.std.proofs.lemmas.Bool.{eqb-true, and_parts}
+use Rattle.std.proofs.lemmas.Bool.Decides.{nat_tests, Decides-eqb}
+use Rattle.std.proofs.lemmas.List.{append-nil, get_or-drop, length-append}
+use Rattle.std.proofs.lemmas.List.Elements.{All-from_recursion}
+use Rattle.std.proofs.lemmas.Map.Made.{AllPairs-from_IsDistinct, IsDistinct-from_AllPairs}
+use Rattle.std.proofs.lemmas.Slice.Eq.{slice_eq-Decides}
+use Rattle.fcg_grammar.specs.declared.error.ReadError.{ReadError}
+use Rattle.fcg_grammar.specs.Number as number
+use Rattle.fcg_grammar.specs.Number.{u2_at, u4_at, part_at}
+use Rattle.fcg_grammar.specs.Reading.{unless_broken, Gives}
+use Rattle.fcg_grammar.specs.Rows.{rows}
+use Rattle.fcg_grammar.specs.Spell.{IsBytes, u2, u4}
+use Rattle.fcg_grammar.proofs.LawLemmas.{bind_ok, kept_ok, ok_or_err}
+use Rattle.fcg_grammar.proofs.Limits.{IsBytes-take}
+use Rattle.fcg_grammar.proofs.Standing.{Stands, Stands-then, Stands-front, ok_is, u2_found, u2_only, u4_found, u4_only, part_found, part_only, part_is, whole_is, is_whole}
+use Rattle.fcg_grammar.proofs.StateRowLaws.{Linked, FoundRow, rows_found, rows_only}
+use Rattle.fcg_views.specs.declared.view.View.{View}
+use Rattle.fcg_views.specs.declared.fault.ClassFault.{ClassFault}
+use Rattle.fcg_views.specs.Reads.{Reads}
+use Rattle.fcg_views.specs.Valid.{IsValid}
+use Rattle.fcg_views.specs.Breaks.Class.{class_of}
+use Rattle.fcg_laws.proofs.ClassLaws.{class_found, class_only}
+use Rattle.fcg_laws.proofs.Fresh.{IsFresh, AreFresh, distinct_found, distinct_only}
+use Rattle.fcg_laws.proofs.Places.{closed}
+use Rattle.fcg_laws.proofs.ValidLaws.{reads_valid, zip_right}
+use Rattle.fcg_class.specs.declared.bundle.BundleFault.{BundleFault}
+use Rattle.fcg_class.specs.declared.bundle.BundleFault.TheVariants.{Jar, NotBuilt}
+use Rattle.fcg_class.specs.Path.{is_path, is_class_path}
+use Rattle.fcg_class.specs.Bundle.{Entry, entry, bundle, IsEntryOf, Content, is_same, path_at, built, body_at, Begun, entry_at, entries_of, is_jar, bundle_of, BundleVerdict, IsContent, IsBroken}
+
+-- ---- parts of a string of bytes
+
+IsBytes-drop : (n : ℕ) (bytes : List ℕ) → IsBytes bytes → IsBytes (drop n bytes)
+IsBytes-drop n bytes fits i = rw get_or-drop (fits (n + i))
+
+IsBytes-part : (bytes : List ℕ) (at n : ℕ) (text : List ℕ) → IsBytes bytes → number.part bytes at n ≡ text → IsBytes text
+IsBytes-part bytes at n text fits e = subst (λ (l : List ℕ). IsBytes l) e (IsBytes-take n (drop at bytes) (IsBytes-drop at bytes fits))
+
+built_ok : (r : Result View ClassFault) (v : View) → built r ≡ Ok v → r ≡ Ok v
+built_ok (Ok w) v e = let same : w ≡ v = ok_is w v e in ap (λ (x : View). Ok x) same
+built_ok (Err f) v e = absurd cc
+
+not_true : (b : Bool) → not b ≡ true → b ≡ false
+not_true true e = absurd cc
+not_true false e = refl
+
+short_path : (path : List ℕ) → is_path path ≡ true → length path < 2 ^ 16
+short_path path e =
+    let a = and_parts (leb 1 (length path) && leb (length path) 1024) _ e in
+    let b = and_parts (leb 1 (length path)) (leb (length path) 1024) a.0 in
+    short (length path) b.1
+  where
+    short : (n : ℕ) → leb n 1024 ≡ true → n < 2 ^ 16
+    short n le = let lt : n ≤ 1024 = grind (arith, nat_tests) in omega arith
+
+same_path : (p q : List ℕ) → Decides (is_same p q) (p ≡ q)
+same_path p q = slice_eq-Decides Decides-eqb p q (is_same p q) refl
+
+-- an entry's listing ends with nothing
+listed : (e : Entry) → u2 (length e.path) ++ (e.path ++ (u4 (length e.body) ++ e.body)) ≡ entry e
+listed e = ap (λ (l : List ℕ). u2 (length e.path) ++ (e.path ++ (u4 (length e.body) ++ l))) (sym (append-nil e.body))
+
+reopened : (e : Entry) (rest : List ℕ) → entry e ++ rest ≡ u2 (length e.path) ++ (e.path ++ (u4 (length e.body) ++ (e.body ++ rest)))
+reopened e rest = ap (λ (l : List ℕ). l ++ rest) (sym (listed e)) ∙ ap (λ (l : List ℕ). u2 (length e.path) ++ l) (append_assoc e.path (u4 (length e.body) ++ e.body) rest)
+
+entry_length : (e : Entry) → length (entry e) ≡ 2 + length e.path + 4 + length e.body
+entry_length e = ap length (sym (listed e)) ∙ omega (arith, length-append e.path (u4 (length e.body) ++ e.body))
+
+-- from entry to entry, with the paths before
+record MeansEntry (s : Begun) (e : Entry) (v : View) (next : Begun) : Type 0 where
+  is : IsEntryOf e v
+  fresh : IsFresh is_same s.paths e.path
+  at : next.at ≡ s.at + length (entry e)
+  paths : next.paths ≡ s.paths ++ e.path ∷ []
+
+module _ (bytes : List ℕ) (fits : IsBytes bytes) where
+  record FoundPath (at : ℕ) (path : List ℕ) (after : ℕ) : Type 0 where
+    stands : Stands bytes at (u2 (length path) ++ path) after
+    kept : is_path path ≡ true
+    class : is_class_path path ≡ true
+
+  path_found : (at : ℕ) (x : List ℕ × ℕ) → path_at bytes at ≡ Ok x → FoundPath at x.0 x.1
+  unfolding path_at
+  path_found at x e =
+      let a = bind_ok (u2_at NotBuilt bytes at) _ x e in
+      let b = bind_ok (part_at NotBuilt bytes (at + 2) a.0) _ x a.2 in
+      let c = bind_ok (unless_broken (is_path b.0 && is_class_path b.0) NotBuilt) _ x b.2 in
+      let n = u2_found NotBuilt bytes at a.0 fits a.1 in
+      let text = part_found NotBuilt bytes (at + 2) a.0 b.0 b.1 in
+      let kept = and_parts (is_path b.0) (is_class_path b.0) (kept_ok _ _ c.0 c.1) in
+      let s = subst (λ (m : ℕ). Stands bytes at (u2 m) (at + 2)) (sym text.1) n.0 in
+      subst (λ (y : List ℕ × ℕ). FoundPath at y.0 y.1) (ok_is _ x c.2) (record { stands = Stands-then s text.0; kept = kept.0; class = kept.1 })
+
+  path_only : (at : ℕ) (path rest : List ℕ) (after : ℕ) → is_path path ≡ true → is_class_path path ≡ true → Stands bytes at (u2 (length path) ++ (path ++ rest)) after
+      → (path_at bytes at ≡ Ok (path, at + 2 + length path)) × Stands bytes (at + 2 + length path) rest after
+  unfolding path_at
+  path_only at path rest after kept class s =
+      let n = u2_only NotBuilt bytes at (length path) (path ++ rest) after (short_path path kept) s in
+      let text = part_only NotBuilt bytes (at + 2) path rest after n.1 in
+      (rw (n.0, text.0, kept, class) refl, text.1)
+
+  record FoundBody (at : ℕ) (v : View) (after : ℕ) : Type 0 where
+    body : List ℕ
+    stands : Stands bytes at (u4 (length body) ++ body) after
+    few : length body < 2 ^ 32
+    reads : Reads body v
+
+  body_found : (at : ℕ) (x : View × ℕ) → body_at bytes at ≡ Ok x → FoundBody at x.0 x.1
+  unfolding body_at
+  body_found at x e =
+      let a = bind_ok (u4_at NotBuilt bytes at) _ x e in
+      let b = bind_ok (part_at NotBuilt bytes (at + 4) a.0) _ x a.2 in
+      let c = bind_ok (built (class_of b.0)) _ x b.2 in
+      let n = u4_found NotBuilt bytes at a.0 fits a.1 in
+      let text = part_found NotBuilt bytes (at + 4) a.0 b.0 b.1 in
+      let own = IsBytes-part bytes (at + 4) a.0 b.0 fits text.2 in
+      let s = subst (λ (m : ℕ). Stands bytes at (u4 m) (at + 4)) (sym text.1) n.0 in
+      subst (λ (y : View × ℕ). FoundBody at y.0 y.1) (ok_is _ x c.2) (record {
+        body = b.0;
+        stands = Stands-then s text.0;
+        few = omega (arith, text.1, n.1);
+        reads = class_found b.0 c.0 own (built_ok (class_of b.0) c.0 c.1);
+      })
+
+  body_only : (at : ℕ) (body : List ℕ) (v : View) (rest : List ℕ) (after : ℕ) → length body < 2 ^ 32 → Reads body v → Stands bytes at (u4 (length body) ++ (body ++ rest)) after
+      → body_at bytes at ≡ Ok (v, at + 4 + length body)
+  unfolding body_at
+  body_only at body v rest after few reads s =
+      let n = u4_only NotBuilt bytes at (length body) (body ++ rest) after few s in
+      let text = part_only NotBuilt bytes (at + 4) body rest after n.1 in
+      let own = IsBytes-part bytes (at + 4) (length body) body fits (part_is bytes (at + 4) body _ (Stands-front body rest n.1)) in
+      rw (n.0, text.0, class_only body v own reads) refl
+
+  abbrev place : Begun → ℕ
+  place s = s.at
+
+  entry_found : (k : ℕ) (s : Begun) (x : View × Begun) → s.at ≤ length bytes → entry_at bytes k s ≡ Ok x → FoundRow bytes place entry MeansEntry (entry_at bytes) s x.0 x.1
+  unfolding entry_at
+  entry_found k s x le e =
+      let a = bind_ok (path_at bytes s.at) _ x e in
+      let b = bind_ok (unless_broken (not (list_any (λ p. is_same p a.0.0) s.paths)) NotBuilt) _ x a.2 in
+      let c = bind_ok (body_at bytes a.0.1) _ x b.2 in
+      let path = path_found s.at a.0 a.1 in
+      let body = body_found a.0.1 c.0 c.1 in
+      let row : Entry = record { path = a.0.0; body = body.body } in
+      let whole = subst (λ (l : List ℕ). Stands bytes s.at l c.0.1) (listed row) (Stands-then path.stands body.stands) in
+      subst (λ (y : View × Begun). FoundRow bytes place entry MeansEntry (entry_at bytes) s y.0 y.1) (ok_is _ x c.2) (record {
+        row = row;
+        stands = whole;
+        meant = record {
+          is = record { path = path.kept; class = path.class; few = body.few; reads = body.reads };
+          fresh = not_true _ (kept_ok _ _ b.0 b.1);
+          at = whole.ends;
+          paths = refl;
+        };
+      })
+
+  entry_only : (k : ℕ) (s : Begun) (e : Entry) (v : View) (next : Begun) (rest : List ℕ) (after : ℕ) → MeansEntry s e v next → Stands bytes s.at (entry e ++ rest) after
+      → (entry_at bytes k s ≡ Ok (v, next)) × (next.at ≡ s.at + length (entry e))
+  unfolding entry_at
+  entry_only k s e v next rest after is t =
+      let here : Stands bytes s.at (u2 (length e.path) ++ (e.path ++ (u4 (length e.body) ++ (e.body ++ rest)))) after = subst (λ (l : List ℕ). Stands bytes s.at l after) (reopened e rest) t in
+      let path = path_only s.at e.path (u4 (length e.body) ++ (e.body ++ rest)) after is.is.path is.is.class here in
+      let body = body_only (s.at + 2 + length e.path) e.body v rest after is.is.few is.is.reads path.1 in
+      let end : s.at + 2 + length e.path + 4 + length e.body ≡ next.at = omega (arith, entry_length e, is.at) in
+      (rw (path.0, is.fresh, body, end, ← is.paths) refl, is.at)
+
+  -- ---- along the entries
+
+  abbrev Follow : Begun → List Entry → List View → Begun → Type 0
+  Follow s es vs end = Linked bytes place entry MeansEntry (entry_at bytes) s es vs end
+
+  follow_found : (s : Begun) (es : List Entry) (vs : List View) (end : Begun) → Follow s es vs end → AllZip IsEntryOf es vs × AreFresh is_same s.paths (map (λ e. e.path) es)
+  follow_found s [] [] end l = (tt, tt)
+  follow_found s [] (v ∷ vs) end l = absurd l
+  follow_found s (e ∷ es) [] end l = absurd l
+  follow_found s (e ∷ es) (v ∷ vs) end l =
+      let below = follow_found l.0 es vs end l.2 in
+      ((l.1.is, below.0), (l.1.fresh, subst (λ (p : List (List ℕ)). AreFresh is_same p (map (λ e. e.path) es)) l.1.paths below.1))
+
+  follow_only : (s : Begun) (es : List Entry) (vs : List View) → AllZip IsEntryOf es vs → AreFresh is_same s.paths (map (λ e. e.path) es) → (end : Begun) × Follow s es vs end
+  follow_only s [] [] z f = (s, refl)
+  follow_only s [] (v ∷ vs) z f = absurd z
+  follow_only s (e ∷ es) [] z f = absurd z
+  follow_only s (e ∷ es) (v ∷ vs) z f =
+      let next : Begun = record { at = s.at + length (entry e); paths = s.paths ++ e.path ∷ [] } in
+      let below = follow_only next es vs z.1 f.1 in
+      (below.0, (next, record { is = z.0; fresh = f.0; at = refl; paths = refl }, below.1))
+
+  entries_found : (views : List View) → entries_of bytes ≡ Ok views → Content bytes views
+  unfolding entries_of
+  entries_found views e =
+      let begun : Begun = record { at = 10; paths = [] } in
+      let a = bind_ok (u4_at NotBuilt bytes 0) _ views e in
+      let b = bind_ok (unless_broken (eqb a.0 0x46434742) NotBuilt) _ views a.2 in
+      let c = bind_ok (u2_at NotBuilt bytes 4) _ views b.2 in
+      let d = bind_ok (unless_broken (eqb c.0 1) NotBuilt) _ views c.2 in
+      let f = bind_ok (u4_at NotBuilt bytes 6) _ views d.2 in
+      let g = bind_ok (rows (entry_at bytes) f.0 0 begun) _ views f.2 in
+      let h = bind_ok (unless_broken (eqb (length bytes) g.0.1.at) NotBuilt) _ views g.2 in
+      let magic : a.0 ≡ 0x46434742 = eqb-true _ _ (kept_ok _ _ b.0 b.1) in
+      let version : c.0 ≡ 1 = eqb-true _ _ (kept_ok _ _ d.0 d.1) in
+      let ended : length bytes ≡ g.0.1.at = eqb-true _ _ (kept_ok _ _ h.0 h.1) in
+      let s0 = subst (λ (n : ℕ). Stands bytes 0 (u4 n) 4) magic (u4_found NotBuilt bytes 0 a.0 fits a.1).0 in
+      let s4 = subst (λ (n : ℕ). Stands bytes 4 (u2 n) 6) version (u2_found NotBuilt bytes 4 c.0 fits c.1).0 in
+      let n = u4_found NotBuilt bytes 6 f.0 fits f.1 in
+      let r = rows_found bytes place entry MeansEntry (entry_at bytes) entry_found f.0 0 begun g.0 n.0.within g.1 in
+      let along = follow_found begun r.table g.0.0 g.0.1 r.meant in
+      let s6 = subst (λ (k : ℕ). Stands bytes 6 (u4 k) 10) (sym r.many) n.0 in
+      let whole = subst (λ (k : ℕ). Stands bytes 0 (u4 0x46434742 ++ (u2 1 ++ (u4 (length r.table) ++ flat_map entry r.table))) k) (sym ended) (Stands-then s0 (Stands-then s4 (Stands-then s6 r.stands))) in
+      subst (λ (y : List View). Content bytes y) (ok_is g.0.0 views h.2) (record {
+        entries = r.table;
+        spelled = whole_is bytes (bundle r.table) (closed (u4 0x46434742 ++ (u2 1 ++ u4 (length r.table))) (flat_map entry r.table) whole);
+        few = omega (arith, r.many, n.1);
+        each = along.0;
+        distinct = AllPairs-from_IsDistinct same_path (map (λ e. e.path) r.table) (distinct_found is_same (map (λ e. e.path) r.table) along.1);
+      })
+
+  entries_only : (views : List View) → Content bytes views → entries_of bytes ≡ Ok views
+  unfolding entries_of
+  entries_only views c =
+      let begun : Begun = record { at = 10; paths = [] } in
+      let es : List Entry = c.entries in
+      let paths : List (List ℕ) = map (λ e. e.path) es in
+      let s = is_whole bytes (bundle es) c.spelled in
+      let a = u4_only NotBuilt bytes 0 0x46434742 (u2 1 ++ (u4 (length es) ++ (flat_map entry es ++ []))) (length bytes) (omega arith) s in
+      let b = u2_only NotBuilt bytes 4 1 (u4 (length es) ++ (flat_map entry es ++ [])) (length bytes) (omega arith) a.1 in
+      let n = u4_only NotBuilt bytes 6 (length es) (flat_map entry es ++ []) (length bytes) c.few b.1 in
+      let along = follow_only begun es views c.each (distinct_only is_same paths (IsDistinct-from_AllPairs same_path paths c.distinct)) in
+      let r = rows_only bytes place entry MeansEntry (entry_at bytes) entry_only 0 begun es views along.0 [] (length bytes) along.1 n.1 in
+      let end : eqb (length bytes) along.0.at ≡ true = (let ends = r.1.ends in grind (arith, nat_tests)) in
+      rw (a.0, b.0, n.0, r.0, end) refl
+
+-- ---- the whole bundle
+
+not_jar : (x y : Result (List View) BundleFault) (b : Bool) (views : List View) → x ≡ Err Jar → cond b x y ≡ Ok views → y ≡ Ok views
+not_jar x y true views is e = absurd cc
+not_jar x y false views is e = e
+
+-- what is read is a bundle with this content
+pub content_found : (bytes : List ℕ) (views : List View) → IsBytes bytes → bundle_of bytes ≡ Ok views → Content bytes views
+unfolding bundle_of
+content_found bytes views fits e = entries_found bytes fits views (not_jar (Err Jar) (entries_of bytes) (is_jar bytes) views refl e)
+
+no_bundle_is_jar : (es : List Entry) → is_jar (bundle es) ≡ false
+no_bundle_is_jar es = refl
+
+-- a bundle is read, with its content
+pub content_only : (bytes : List ℕ) (views : List View) → IsBytes bytes → Content bytes views → bundle_of bytes ≡ Ok views
+unfolding bundle_of
+content_only bytes views fits c =
+    let plain : is_jar bytes ≡ false = ap (λ (l : List ℕ). is_jar l) c.spelled ∙ no_bundle_is_jar c.entries in
+    rw plain (entries_only bytes fits views c)
+
+valid_entry : (e : Entry) (v : View) → IsEntryOf e v → IsValid v
+valid_entry e v is = reads_valid e.body v is.reads
+
+-- each view of a bundle is valid
+pub content_valid : (bytes : List ℕ) (views : List View) → Content bytes views → All IsValid views
+content_valid bytes views c = All-from_recursion IsValid views (zip_right IsEntryOf IsValid valid_entry c.entries views c.each)
+
+-- ---- what a reader answers
+
+pub is_found : (bytes : List ℕ) (r : Result (List View) (ReadError BundleFault)) → IsBytes bytes → Gives (λ v. v) r (bundle_of bytes) → IfOk r (λ views. Content bytes views)
+is_found bytes (Ok views) fits given = content_found bytes views fits given
+is_found bytes (Err e) fits given = tt
+
+pub is_valid : (bytes : List ℕ) (r : Result (List View) (ReadError BundleFault)) → IsBytes bytes → Gives (λ v. v) r (bundle_of bytes) → IfOk r (λ views. All IsValid views)
+is_valid bytes (Ok views) fits given = content_valid bytes views (content_found bytes views fits given)
+is_valid bytes (Err e) fits given = tt
+
+verdict_by : (bytes : List ℕ) → IsBytes bytes → (r : Result (List View) BundleFault) → bundle_of bytes ≡ r → BundleVerdict bytes
+verdict_by bytes fits (Ok views) is =
+    IsContent views (content_found bytes views fits is) (λ other c. ok_is other views (sym (content_only bytes other fits c) ∙ is)) (λ f broken. ok_or_err views f (sym is ∙ broken))
+verdict_by bytes fits (Err f) is = IsBroken f is (λ views c. ok_or_err views f (sym (content_only bytes views fits c) ∙ is))
+
+pub bundle_verdict : (bytes : List ℕ) → IsBytes bytes → BundleVerdict bytes
+bundle_verdict bytes fits = verdict_by bytes fits (bundle_of bytes) refl

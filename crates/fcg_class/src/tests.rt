@@ -1,0 +1,228 @@
+use crate::class::read_class;
+use crate::{BundleFault, read_bundle};
+use fcg_grammar::ReadError;
+use fcg_views::ClassRule;
+use std::alloc::Global;
+use std::test::Fail;
+
+// The smallest class file, an interface `I`.
+const SMALLEST: [u8; 53] = [
+    0xca, 0xfe, 0xba, 0xbe, 0x00, 0x00, 0x00, 0x41, 0x00, 0x05, 0x01, 0x00, 0x01, 0x49, 0x07, 0x00,
+    0x01, 0x01, 0x00, 0x10, 0x6a, 0x61, 0x76, 0x61, 0x2f, 0x6c, 0x61, 0x6e, 0x67, 0x2f, 0x4f, 0x62,
+    0x6a, 0x65, 0x63, 0x74, 0x07, 0x00, 0x03, 0x06, 0x01, 0x00, 0x02, 0x00, 0x04, 0x00, 0x00, 0x00,
+    0x00, 0x00, 0x00, 0x00, 0x00,
+];
+
+// Where the first n bytes of it are cut, for each n.
+const CUTS: [u32; 53] = [
+    0, 0, 0, 0, 4, 4, 6, 6, 8, 8, 10, 11, 11, 13, 14, 15, 15, 17, 18, 18, 20, 20, 20, 20, 20, 20,
+    20, 20, 20, 20, 20, 20, 20, 20, 20, 20, 36, 37, 37, 39, 39, 41, 41, 43, 43, 45, 45, 47, 47, 49,
+    49, 51, 51,
+];
+
+// What javac makes of `interface J extends Runnable { void a() throws Exception; int a(String s); }`, and two
+// constants more at the pool's end: an empty text at index 15 and `Code` at 16.
+const METHODS: [u8; 217] = [
+    0xca, 0xfe, 0xba, 0xbe, 0x00, 0x00, 0x00, 0x3d, 0x00, 0x11, 0x07, 0x00, 0x02, 0x01, 0x00, 0x01,
+    0x4a, 0x07, 0x00, 0x04, 0x01, 0x00, 0x10, 0x6a, 0x61, 0x76, 0x61, 0x2f, 0x6c, 0x61, 0x6e, 0x67,
+    0x2f, 0x4f, 0x62, 0x6a, 0x65, 0x63, 0x74, 0x07, 0x00, 0x06, 0x01, 0x00, 0x12, 0x6a, 0x61, 0x76,
+    0x61, 0x2f, 0x6c, 0x61, 0x6e, 0x67, 0x2f, 0x52, 0x75, 0x6e, 0x6e, 0x61, 0x62, 0x6c, 0x65, 0x01,
+    0x00, 0x01, 0x61, 0x01, 0x00, 0x03, 0x28, 0x29, 0x56, 0x01, 0x00, 0x0a, 0x45, 0x78, 0x63, 0x65,
+    0x70, 0x74, 0x69, 0x6f, 0x6e, 0x73, 0x07, 0x00, 0x0b, 0x01, 0x00, 0x13, 0x6a, 0x61, 0x76, 0x61,
+    0x2f, 0x6c, 0x61, 0x6e, 0x67, 0x2f, 0x45, 0x78, 0x63, 0x65, 0x70, 0x74, 0x69, 0x6f, 0x6e, 0x01,
+    0x00, 0x15, 0x28, 0x4c, 0x6a, 0x61, 0x76, 0x61, 0x2f, 0x6c, 0x61, 0x6e, 0x67, 0x2f, 0x53, 0x74,
+    0x72, 0x69, 0x6e, 0x67, 0x3b, 0x29, 0x49, 0x01, 0x00, 0x0a, 0x53, 0x6f, 0x75, 0x72, 0x63, 0x65,
+    0x46, 0x69, 0x6c, 0x65, 0x01, 0x00, 0x06, 0x4a, 0x2e, 0x6a, 0x61, 0x76, 0x61, 0x01, 0x00, 0x00,
+    0x01, 0x00, 0x04, 0x43, 0x6f, 0x64, 0x65, 0x06, 0x00, 0x00, 0x01, 0x00, 0x03, 0x00, 0x01, 0x00,
+    0x05, 0x00, 0x00, 0x00, 0x02, 0x04, 0x01, 0x00, 0x07, 0x00, 0x08, 0x00, 0x01, 0x00, 0x09, 0x00,
+    0x00, 0x00, 0x04, 0x00, 0x01, 0x00, 0x0a, 0x04, 0x01, 0x00, 0x07, 0x00, 0x0c, 0x00, 0x00, 0x00,
+    0x01, 0x00, 0x0d, 0x00, 0x00, 0x00, 0x02, 0x00, 0x0e,
+];
+
+// A byte of it by its place, what it is changed to, and the fault: its rule, its place and the index of the pool.
+const CHANGES: [(usize, u8, ClassRule, u32, u16); 23] = [
+    (3, 0xbf, ClassRule::Magic, 0, 0),
+    (7, 44, ClassRule::Version, 6, 0),
+    (7, 66, ClassRule::Version, 6, 0),
+    // the constants: a tag 3; a name's index that is 0, past the pool, of a Class; a lone byte 80
+    (10, 3, ClassRule::NotBuilt, 10, 1),
+    (19, 0, ClassRule::BadIndex, 17, 3),
+    (19, 17, ClassRule::BadIndex, 17, 3),
+    (19, 1, ClassRule::WrongKind, 17, 3),
+    (16, 0x80, ClassRule::BadUtf8, 16, 2),
+    // the flags of a module, the type's index, its empty name, an interface's index, a field
+    (167, 0x80, ClassRule::NotBuilt, 167, 0),
+    (170, 0, ClassRule::BadIndex, 169, 0),
+    (170, 15, ClassRule::WrongKind, 169, 15),
+    (12, 15, ClassRule::EmptyName, 169, 0),
+    (176, 7, ClassRule::WrongKind, 175, 7),
+    (178, 1, ClassRule::NotBuilt, 177, 0),
+    // the methods: an empty name, the descriptor `()X`, a descriptor's index, an attribute Code, the same twice
+    (184, 15, ClassRule::EmptyName, 183, 0),
+    (72, 0x58, ClassRule::Descriptor, 185, 0),
+    (186, 17, ClassRule::BadIndex, 185, 17),
+    (190, 16, ClassRule::NotBuilt, 189, 0),
+    (204, 8, ClassRule::DoubleMethod, 199, 0),
+    // the class's attributes: Code, a content past the end, and one that ends before it
+    (210, 16, ClassRule::NotBuilt, 209, 0),
+    (212, 1, ClassRule::Cut, 215, 0),
+    (214, 3, ClassRule::Cut, 215, 0),
+    (214, 1, ClassRule::Trailing, 216, 0),
+];
+
+#[test]
+fn smallest(rt: HostRuntime) -> Result<(), Fail> {
+    let view = read_class(rt.alloc(), &SMALLEST)
+        .ok()
+        .ok_or("it is a class file")?;
+    assert_eq!(rt; view.name.as_slice(), b"I".as_slice());
+    assert_eq!(rt; view.flags, 0x0601);
+    match &view.superclass {
+        Some(name) => assert_eq!(rt; name.as_slice(), b"java/lang/Object".as_slice()),
+        None => panic!(rt; "it has a superclass"),
+    }
+    assert_eq!(rt; view.interfaces.as_slice().len(), 0);
+    assert_eq!(rt; view.fields.as_slice().len(), 0);
+    assert_eq!(rt; view.methods.as_slice().len(), 0);
+    Ok(())
+}
+
+#[test]
+fn cut_at_each_length(rt: HostRuntime) -> Result<(), Fail> {
+    for (n, cut) in CUTS.iter().enumerate() {
+        match read_class(rt.alloc(), &SMALLEST[..n]) {
+            Err(ReadError::Fault(fault)) => {
+                assert!(rt; fault.rule == ClassRule::Cut, "at {n}");
+                assert_eq!(rt; fault.offset, *cut, "at {n}");
+            }
+            _ => panic!(rt; "the first {n} bytes were read"),
+        }
+    }
+    let mut longer = SMALLEST.to_vec(rt.alloc())?;
+    longer.push(0)?;
+    match read_class(rt.alloc(), &longer) {
+        Err(ReadError::Fault(fault)) => {
+            assert!(rt; fault.rule == ClassRule::Trailing && fault.offset == 53);
+        }
+        _ => panic!(rt; "a byte after the end was read"),
+    }
+    Ok(())
+}
+
+#[test]
+fn methods(rt: HostRuntime) -> Result<(), Fail> {
+    let view = read_class(rt.alloc(), &METHODS)
+        .ok()
+        .ok_or("it is a class file")?;
+    assert_eq!(rt; view.name.as_slice(), b"J".as_slice());
+    assert_eq!(rt; view.flags, 0x0600);
+    match view.interfaces.as_slice() {
+        [name] => assert_eq!(rt; name.as_slice(), b"java/lang/Runnable".as_slice()),
+        _ => panic!(rt; "it has one interface"),
+    }
+    let descs = [b"()V".as_slice(), b"(Ljava/lang/String;)I".as_slice()];
+    assert_eq!(rt; view.methods.as_slice().len(), 2);
+    for (method, desc) in view.methods.as_slice().iter().zip(descs) {
+        assert_eq!(rt; method.name.as_slice(), b"a".as_slice());
+        assert_eq!(rt; method.desc.as_slice(), desc);
+        assert_eq!(rt; method.flags, 0x0401);
+        assert_eq!(rt; method.sites.as_slice().len(), 0);
+    }
+    Ok(())
+}
+
+#[test]
+fn changed_bytes(rt: HostRuntime) -> Result<(), Fail> {
+    for (at, byte, rule, offset, index) in CHANGES.iter() {
+        let mut bytes = METHODS.to_vec(rt.alloc())?;
+        if let Some(old) = bytes.get_mut(*at) {
+            *old = *byte;
+        }
+        match read_class(rt.alloc(), &bytes) {
+            Err(ReadError::Fault(fault)) => {
+                assert!(rt; fault.rule == *rule, "{byte} at {at}");
+                assert_eq!(rt; fault.offset, *offset, "{byte} at {at}");
+                assert_eq!(rt; fault.index, *index, "{byte} at {at}");
+            }
+            _ => panic!(rt; "it was read with {byte} at {at}"),
+        }
+    }
+    Ok(())
+}
+
+// A bundle with the smallest class file at each of some paths.
+fn make_bundle(alloc: Global, paths: &[&[u8]]) -> Result<Vec<u8>, Fail> {
+    let mut bytes = b"FCGB\x00\x01\x00\x00\x00".to_vec(alloc)?;
+    bytes.push(u8::try_from(paths.len())?)?;
+    for path in paths {
+        bytes.push(0)?;
+        bytes.push(u8::try_from(path.len())?)?;
+        bytes.extend_from_slice(path)?;
+        bytes.extend_from_slice(&[0, 0, 0, 53])?;
+        bytes.extend_from_slice(&SMALLEST)?;
+    }
+    Ok(bytes)
+}
+
+#[test]
+fn bundles(rt: HostRuntime) -> Result<(), Fail> {
+    let none = read_bundle(rt.alloc(), b"FCGB\x00\x01\x00\x00\x00\x00")
+        .ok()
+        .ok_or("it is a bundle")?;
+    assert_eq!(rt; none.as_slice().len(), 0);
+    let one = make_bundle(rt.alloc(), &[b"I.class"])?;
+    assert_eq!(rt; one.len(), 76);
+    let views = read_bundle(rt.alloc(), &one).ok().ok_or("it is a bundle")?;
+    match views.as_slice() {
+        [view] => assert_eq!(rt; view.name.as_slice(), b"I".as_slice()),
+        _ => panic!(rt; "it has one class file"),
+    }
+    let two = make_bundle(rt.alloc(), &[b"a/I.class", b"b/I.class"])?;
+    let views = read_bundle(rt.alloc(), &two).ok().ok_or("it is a bundle")?;
+    assert_eq!(rt; views.as_slice().len(), 2);
+    Ok(())
+}
+
+fn is_not_built(alloc: Global, bytes: &[u8]) -> bool {
+    matches!(
+        read_bundle(alloc, bytes),
+        Err(ReadError::Fault(BundleFault::NotBuilt))
+    )
+}
+
+#[test]
+fn refused_bundles(rt: HostRuntime) -> Result<(), Fail> {
+    assert!(rt;
+        matches!(
+            read_bundle(rt.alloc(), b"PK\x03\x04"),
+            Err(ReadError::Fault(BundleFault::Jar))
+        )
+    );
+    assert!(rt; is_not_built(rt.alloc(), b"FCG"));
+    let mut longer = make_bundle(rt.alloc(), &[b"I.class"])?;
+    longer.push(0)?;
+    assert!(rt; is_not_built(rt.alloc(), &longer));
+    let twice = make_bundle(rt.alloc(), &[b"I.class", b"I.class"])?;
+    assert!(rt; is_not_built(rt.alloc(), &twice));
+    Ok(())
+}
+
+// Paths with an empty part, a part `..` or a byte 5c, of a file that is no class file, and of a version of one.
+const BAD_PATHS: [&[u8]; 7] = [
+    b"",
+    b"/I.class",
+    b"a//I.class",
+    b"a/../I.class",
+    b"a\\I.class",
+    b"a.txt",
+    b"META-INF/versions/9/A.class",
+];
+
+#[test]
+fn refused_paths(rt: HostRuntime) -> Result<(), Fail> {
+    for path in BAD_PATHS {
+        let bytes = make_bundle(rt.alloc(), &[path])?;
+        assert!(rt; is_not_built(rt.alloc(), &bytes));
+    }
+    Ok(())
+}

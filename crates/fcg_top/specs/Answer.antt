@@ -1,11 +1,11 @@
 -- What a run answers: a status, what it writes, and its line on the errors.
-use Rattle.std.specs.Prelude.{◌≡◌, ◌⊎◌, ℕ, List, [], ◌∷◌, length, take, nat_lt, codes, Option, Some, None, Result, Ok, Err, if◌then◌else◌}
+use Rattle.std.specs.Prelude.{◌≡◌, ◌⊎◌, ℕ, ◌<◌, ◌≤◌, IsTrue, List, [], length, take, nat_lt, codes, Option, Some, None, Result, Ok, Err, if◌then◌else◌}
 use Rattle.std.specs.Io.KnownBytes.{Appends}
 use Rattle.fcg_bytes.specs.Causes.{Rose}
 use Rattle.fcg_views.specs.declared.view.View.{View}
 use Rattle.fcg_class.specs.declared.bundle.BundleFault.{BundleFault}
 use Rattle.fcg_class.specs.declared.bundle.BundleFault.TheVariants as faults
-use Rattle.fcg_class.specs.Bundle.{bundle_of}
+use Rattle.fcg_class.specs.Bundle.{Content, is_jar, bundle_of}
 use Rattle.fcg_top.specs.declared.words.Command.{Command}
 use Rattle.fcg_top.specs.declared.words.Command.TheVariants as commands
 use Rattle.fcg_top.specs.declared.status.Status.{Status}
@@ -39,6 +39,27 @@ list_answer input = if nat_lt bundle_limit (length input) then Err refusals.Body
 abbrev pub answer : Option Command → List ℕ → Result (List ℕ) Refusal
 answer (Some commands.List) input = list_answer input
 answer None input = Ok []
+
+-- What an answer means for the input: a listing is the text of the views of the bundle that the input is; an input is
+-- refused where it is too long, else where it is a jar, else where it is no bundle with any content.
+abbrev pub IsListing : List ℕ → Result (List ℕ) Refusal → Type 0
+IsListing input (Ok text) = (length input ≤ bundle_limit) × ((views : List View) × Content input views × (text ≡ list_text views))
+IsListing input (Err refusals.BodyTooLong) = bundle_limit < length input
+IsListing input (Err refusals.Jar) = (length input ≤ bundle_limit) × IsTrue (is_jar input)
+IsListing input (Err refusals.NotBuilt) = (length input ≤ bundle_limit) × (IsTrue (is_jar input) → ⊥) × ((views : List View) → Content input views → ⊥)
+
+abbrev pub IsAnswer : Option Command → List ℕ → Result (List ℕ) Refusal → Type 0
+IsAnswer (Some commands.List) input answer = IsListing input answer
+IsAnswer None input answer = Unit {0}
+
+-- what an answer that a run gave means
+abbrev pub Means : Status → Option Command → List ℕ → Result (List ℕ) Refusal → Type 0
+Means statuses.Ok command input answer = IsAnswer command input answer
+Means statuses.Refused command input answer = IsAnswer command input answer
+Means statuses.WriteFailed command input answer = IsAnswer command input answer
+Means statuses.Words command input answer = Unit {0}
+Means statuses.ReadFailed command input answer = Unit {0}
+Means statuses.NoMemory command input answer = Unit {0}
 
 -- A front of a text was written.
 abbrev pub GainsFront : Option (List ℕ) → Option (List ℕ) → List ℕ → Type 0
@@ -76,3 +97,10 @@ Makes view (Ok x) answer = answer ≡ Ok (view x)
 Makes view (Err (stops.Refused refusal)) answer = answer ≡ Err refusal
 Makes view (Err stops.ReadFailed) answer = Unit {0}
 Makes view (Err stops.NoMemory) answer = Unit {0}
+
+-- and means what it should
+abbrev pub IsMeant : Option Command → List ℕ → Result (List ℕ) Stop → Type 0
+IsMeant command input (Ok text) = IsAnswer command input (Ok text)
+IsMeant command input (Err (stops.Refused refusal)) = IsAnswer command input (Err refusal)
+IsMeant command input (Err stops.ReadFailed) = Unit {0}
+IsMeant command input (Err stops.NoMemory) = Unit {0}

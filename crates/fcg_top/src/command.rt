@@ -3,7 +3,7 @@ ghost use Rattle.std.specs.Prelude.{◌≡◌, ◌≢◌, ◌↔◌, ◌≤◌, 
 ghost use Rattle.std.specs.Io.KnownBytes.{Keeps};
 ghost use Rattle.fcg_bytes.specs.Causes.{Rose};
 ghost use Rattle.fcg_top.specs.Words.{command_of};
-ghost use Rattle.fcg_top.specs.Answer.{list_answer, answer, Leaves, Tells, errors_of, Makes};
+ghost use Rattle.fcg_top.specs.Answer.{list_answer, answer, Leaves, Tells, errors_of, Makes, Means, IsMeant};
 
 use crate::status::{Status, Stop};
 use crate::text::print_list;
@@ -19,6 +19,7 @@ const BUNDLE_LIMIT: usize = 67_108_864;
 #[tactic(auto, unfolding(crate::specs::Answer::list_answer))]
 fn list<S: Source>(alloc: Global, input: &mut S) -> Result<Bytes, Stop>
     ensures answer { IfSome (S.left input.old) (λ bytes. Makes (λ text. text) result (list_answer bytes)) }
+    ensures means { IfSome (S.left input.old) (λ bytes. IsMeant (Some Command.List) bytes result) }
     ensures failed { IsErrOf result Stop.ReadFailed → Rose (S.faults input.old) (S.faults input.new) }
     ensures later { S.faults input.old ≤ S.faults input.new }
     ensures aside { S.aside input.new ≡ S.aside input.old }
@@ -31,6 +32,7 @@ fn list<S: Source>(alloc: Global, input: &mut S) -> Result<Bytes, Stop>
 // What a command prints for its input.
 fn answer_input<S: Source>(alloc: Global, command: Command, input: &mut S) -> Result<Bytes, Stop>
     ensures answer { IfSome (S.left input.old) (λ bytes. Makes (λ text. text) result (answer (Some command) bytes)) }
+    ensures means { IfSome (S.left input.old) (λ bytes. IsMeant (Some command) bytes result) }
     ensures failed { IsErrOf result Stop.ReadFailed → Rose (S.faults input.old) (S.faults input.new) }
     ensures later { S.faults input.old ≤ S.faults input.new }
     ensures aside { S.aside input.new ≡ S.aside input.old }
@@ -65,6 +67,10 @@ pub fn run<S: Source, W: Sink, E: Sink>(
     // What the output gained is the answer to the input's bytes.
     ensures output { IfSome (S.left input.old) (λ bytes.
         Leaves result (answer (command_of (map string_bytes words.now)) bytes) (W.taken output.old) (W.taken output.new)) }
+
+    // That answer is right: a listing is that of the bundle that the input is, and a refusal has its cause in the input.
+    ensures means { IfSome (S.left input.old) (λ bytes.
+        Means result (command_of (map string_bytes words.now)) bytes (answer (command_of (map string_bytes words.now)) bytes)) }
 
     // Nothing else is written, whatever the input tells.
     ensures silent { result ≢ Status.Ok → result ≢ Status.WriteFailed → Keeps (W.taken output.old) (W.taken output.new) }

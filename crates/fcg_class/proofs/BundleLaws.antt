@@ -66,6 +66,9 @@ same_path p q = slice_eq-Decides Decides-eqb p q (is_same p q) refl
 listed : (e : Entry) → u2 (length e.path) ++ (e.path ++ (u4 (length e.body) ++ e.body)) ≡ entry e
 listed e = ap (λ (l : List ℕ). u2 (length e.path) ++ (e.path ++ (u4 (length e.body) ++ l))) (sym (append-nil e.body))
 
+listed_at : {bytes : List ℕ} {at : ℕ} {after : ℕ} (e : Entry) → Stands bytes at (u2 (length e.path) ++ (e.path ++ (u4 (length e.body) ++ e.body))) after → Stands bytes at (entry e) after
+listed_at {bytes} {at} {after} e s = subst (λ (l : List ℕ). Stands bytes at l after) (listed e) s
+
 reopened : (e : Entry) (rest : List ℕ) → entry e ++ rest ≡ u2 (length e.path) ++ (e.path ++ (u4 (length e.body) ++ (e.body ++ rest)))
 reopened e rest = ap (λ (l : List ℕ). l ++ rest) (sym (listed e)) ∙ ap (λ (l : List ℕ). u2 (length e.path) ++ l) (append_assoc e.path (u4 (length e.body) ++ e.body) rest)
 
@@ -149,7 +152,7 @@ module _ (bytes : List ℕ) (fits : IsBytes bytes) where
       let path = path_found s.at a.0 a.1 in
       let body = body_found a.0.1 c.0 c.1 in
       let row : Entry = record { path = a.0.0; body = body.body } in
-      let whole = subst (λ (l : List ℕ). Stands bytes s.at l c.0.1) (listed row) (Stands-then path.stands body.stands) in
+      let whole = listed_at row (Stands-then path.stands body.stands) in
       subst (λ (y : View × Begun). FoundRow bytes place entry MeansEntry (entry_at bytes) s y.0 y.1) (ok_is _ x c.2) (record {
         row = row;
         stands = whole;

@@ -167,7 +167,9 @@ pub fn read_bundle(alloc: Global, bytes: &[u8]) -> Result<Views, ReadError<Bundl
     ensures only { (views : List View) → Content bytes.now views → Gives (λ v. v) result (Ok views) }
     // Which fault it is.
     ensures exact { Gives (λ views. views) result (bundle_of bytes.now) }
+    // A jar is told from all else.
     ensures jar { IsErrOf result (ReadError.Fault BundleFault.Jar) ↔ IsTrue (is_jar bytes.now) }
+    // Each view is one that a class file could have.
     ensures valid { IfOk result (All IsValid) }
 {
     read_whole(alloc, bytes)

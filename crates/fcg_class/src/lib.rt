@@ -1,6 +1,6 @@
 //! Readers of class files and of bundles of them. They answer exactly what the definitions of fcg_views and of
-//! specs/ give: the views of a bundle's class files, or its fault. The crate stands on the words of formats and on
-//! the values that every layer speaks of.
+//! specs/ give: the views of a bundle's class files, or its fault. The crate stands on the words of formats, on the
+//! values that every layer speaks of, and on the laws of class files.
 #![tactic(auto)]
 
 mod bundle;

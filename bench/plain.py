@@ -1,0 +1,294 @@
+#!/usr/bin/env python3
+"""An independent reader of plain class files and plain bundles.
+
+It is written from the formats' description (after JVMS 4) and shares no code with the program, so that
+the two can be compared byte by byte. As a script it answers as `fcg list` should.
+"""
+
+import re
+import struct
+import sys
+
+LIMIT = 67108864
+JAR = b"PK\x03\x04"
+BODY_TOO_LONG = b'{"fault":"BodyTooLong","limit":67108864}\n'
+JAR_FAULT = b'{"fault":"Jar"}\n'
+NOT_BUILT = b'{"fault":"NotBuilt"}\n'
+
+# a Utf8 entry: groups of one, two and three bytes
+_UTF8 = re.compile(rb"(?:[\x01-\x7f]|[\xc0-\xdf][\x80-\xbf]|[\xe0-\xef][\x80-\xbf][\x80-\xbf])*", re.S)
+# a field descriptor; the group is its J or D where it is no array
+_FIELD = re.compile(rb"\[{0,255}(?:[BCFISZ]|([DJ])|L[^;]+;)", re.S)
+_WORD = b"ABCDEFGHIJKLMNOPQRSTUVWXYZabcdefghijklmnopqrstuvwxyz0123456789_-$"
+_FORBIDDEN = (b"Code", b"BootstrapMethods")
+
+
+class _NotPlain(Exception):
+    """The bytes are no plain class file."""
+
+
+def _escape_table(extra):
+    """The text of each byte, where the bytes of `extra` stand beside letters, digits, `_`, `-`, `$`."""
+    stands = set(_WORD + extra)
+    return [bytes([b]) if b in stands else b"%%%02X" % b for b in range(256)]
+
+
+_TABLES = {extra: _escape_table(extra) for extra in (b"", b"/", b"/();[")}
+
+
+def escape(text, extra=b""):
+    """`text` with each byte that does not stand written as `%` and two upper-case hex digits."""
+    table = _TABLES[extra]
+    return b"".join([table[b] for b in text])
+
+
+def is_method_descriptor(text):
+    """Whether `text` is a method descriptor of at most 255 parameter units."""
+    if text[:1] != b"(":
+        return False
+    at = 1
+    units = 0
+    while text[at:at + 1] != b")":
+        field = _FIELD.match(text, at)
+        if field is None:
+            return False
+        # a long or a double that is no element of an array takes two units
+        units += 2 if field.group(1) and text[at] != 0x5B else 1
+        if units > 255:
+            return False
+        at = field.end()
+    rest = text[at + 1:]
+    return rest == b"V" or _FIELD.fullmatch(rest) is not None
+
+
+class _Reader:
+    """A place in the bytes of a class file; every read past the end raises _NotPlain."""
+
+    def __init__(self, data):
+        self.data = data
+        self.at = 0
+
+    def take(self, count):
+        """The next `count` bytes."""
+        end = self.at + count
+        if end > len(self.data):
+            raise _NotPlain
+        part = self.data[self.at:end]
+        self.at = end
+        return part
+
+    def u1(self):
+        """The next byte."""
+        return self.take(1)[0]
+
+    def u2(self):
+        """The next two bytes, big-endian."""
+        return int.from_bytes(self.take(2), "big")
+
+    def u4(self):
+        """The next four bytes, big-endian."""
+        return int.from_bytes(self.take(4), "big")
+
+
+def _need(condition):
+    """Raises _NotPlain where the condition does not hold."""
+    if not condition:
+        raise _NotPlain
+
+
+def _read_pool(reader):
+    """The constant pool: an index gives bytes (Utf8), an int (Class: the index of its name) or None."""
+    count = reader.u2()
+    pool = [None]
+    while len(pool) < count:
+        tag = reader.u1()
+        if tag == 1:
+            text = reader.take(reader.u2())
+            _need(_UTF8.fullmatch(text))
+            pool.append(text)
+        elif tag == 7:
+            pool.append(reader.u2())
+        else:
+            raise _NotPlain
+    for entry in pool:
+        if isinstance(entry, int):
+            _utf8(pool, entry)
+    return pool
+
+
+def _utf8(pool, index):
+    """The bytes of the Utf8 entry at `index`."""
+    _need(index < len(pool) and isinstance(pool[index], bytes))
+    return pool[index]
+
+
+def _class_name(pool, index):
+    """The name, not empty, of the Class entry at `index`."""
+    _need(index < len(pool) and isinstance(pool[index], int))
+    name = _utf8(pool, pool[index])
+    _need(name)
+    return name
+
+
+def _pass_attributes(reader, pool):
+    """Passes over a count of attributes, none of them of a forbidden name."""
+    for _ in range(reader.u2()):
+        _need(_utf8(pool, reader.u2()) not in _FORBIDDEN)
+        reader.take(reader.u4())
+
+
+def _read_class(data):
+    """As read_class, but raises _NotPlain."""
+    reader = _Reader(data)
+    _need(reader.take(4) == b"\xca\xfe\xba\xbe")
+    reader.u2()
+    _need(45 <= reader.u2() <= 65)
+    pool = _read_pool(reader)
+    _need(reader.u2() & 0x8000 == 0)
+    name = _class_name(pool, reader.u2())
+    super_index = reader.u2()
+    if super_index != 0:
+        _class_name(pool, super_index)
+    for _ in range(reader.u2()):
+        _class_name(pool, reader.u2())
+    _need(reader.u2() == 0)
+    methods = []
+    descriptors = set()
+    for _ in range(reader.u2()):
+        reader.u2()
+        method = _utf8(pool, reader.u2())
+        _need(method)
+        descriptor = _utf8(pool, reader.u2())
+        if descriptor not in descriptors:
+            _need(is_method_descriptor(descriptor))
+            descriptors.add(descriptor)
+        methods.append((method, descriptor))
+        _pass_attributes(reader, pool)
+    _need(len(set(methods)) == len(methods))
+    _pass_attributes(reader, pool)
+    _need(reader.at == len(data))
+    return name, methods
+
+
+def read_class(data):
+    """The name and the (name, descriptor) pairs of a plain class file, or None."""
+    try:
+        return _read_class(data)
+    except _NotPlain:
+        return None
+
+
+def is_path(path):
+    """Whether `path` may be the path of an entry."""
+    if not 1 <= len(path) <= 1024:
+        return False
+    if any(b < 0x20 or b in (0x5C, 0x7F) for b in path):
+        return False
+    return all(part not in (b"", b".", b"..") for part in path.split(b"/"))
+
+
+def unpack(bundle):
+    """The (path, body) pairs of a bundle, or None."""
+    if len(bundle) > LIMIT or bundle[:6] != b"FCGB\x00\x01" or len(bundle) < 10:
+        return None
+    count = struct.unpack_from(">I", bundle, 6)[0]
+    at = 10
+    entries = []
+    seen = set()
+    for _ in range(count):
+        if at + 2 > len(bundle):
+            return None
+        size = int.from_bytes(bundle[at:at + 2], "big")
+        path = bundle[at + 2:at + 2 + size]
+        at += 2 + size
+        if at + 4 > len(bundle) or not is_path(path) or path in seen:
+            return None
+        seen.add(path)
+        size = int.from_bytes(bundle[at:at + 4], "big")
+        at += 4
+        if at + size > len(bundle):
+            return None
+        entries.append((path, bundle[at:at + size]))
+        at += size
+    return entries if at == len(bundle) else None
+
+
+def pack(entries):
+    """The bundle of the (path, body) pairs; nothing about them is checked but that the lengths fit."""
+    parts = [b"FCGB" + struct.pack(">HI", 1, len(entries))]
+    for path, body in entries:
+        parts.append(struct.pack(">H", len(path)) + path + struct.pack(">I", len(body)))
+        parts.append(body)
+    return b"".join(parts)
+
+
+def views(bundle):
+    """The (name, methods) pair of each entry of a plain bundle, or None where the bytes are none."""
+    entries = unpack(bundle)
+    if entries is None:
+        return None
+    found = []
+    known = {}
+    for path, body in entries:
+        if not path.endswith(b".class") or path.startswith(b"META-INF/versions/"):
+            return None
+        if body not in known:
+            known[body] = read_class(body)
+        if known[body] is None:
+            return None
+        found.append(known[body])
+    return found
+
+
+def lines(found):
+    """The lines that `fcg list` prints for the views of a plain bundle, one after the other."""
+    known = {}
+
+    def text(part, extra):
+        """An escaped part; the long ones are kept, since they come again."""
+        if len(part) < 256:
+            return escape(part, extra)
+        if (part, extra) not in known:
+            known[part, extra] = escape(part, extra)
+        return known[part, extra]
+
+    count = 0
+    for name, methods in found:
+        yield b"type " + text(name, b"/") + b"\n"
+        for method, descriptor in methods:
+            yield b"method " + text(method, b"") + text(descriptor, b"/();[") + b"\n"
+        count += len(methods)
+    yield b"types %d methods %d\n" % (len(found), count)
+
+
+def list_text(bundle):
+    """The text that `fcg list` prints for a plain bundle, or None where the bytes are none."""
+    found = views(bundle)
+    return None if found is None else b"".join(lines(found))
+
+
+def answer(data):
+    """The exit status, standard output and standard error that `fcg list` owes to an input."""
+    if len(data) > LIMIT:
+        return 3, b"", BODY_TOO_LONG
+    if data[:4] == JAR:
+        return 3, b"", JAR_FAULT
+    text = list_text(data)
+    if text is None:
+        return 3, b"", NOT_BUILT
+    return 0, text, b""
+
+
+def main(words):
+    """Answers for the bundle on standard input."""
+    if words:
+        print(__doc__ + "\nUse: plain.py < BUNDLE")
+        return 0 if words == ["--help"] else 2
+    status, out, err = answer(sys.stdin.buffer.read())
+    sys.stdout.buffer.write(out)
+    sys.stderr.buffer.write(err)
+    return status
+
+
+if __name__ == "__main__":
+    sys.exit(main(sys.argv[1:]))

@@ -14,7 +14,9 @@ use crate::number::{read_part, read_u2, read_u4};
 use crate::pool::Pool;
 use crate::text::{Text, find_text};
 use fcg_grammar::ReadError;
-use fcg_views::{ClassFault, ClassRule, Method, Methods, NoMemory, Sites, fault_at, read_descriptor};
+use fcg_views::{
+    ClassFault, ClassRule, Method, Methods, NoMemory, Sites, fault_at, read_descriptor,
+};
 use std::alloc::Global;
 
 // Whether an attribute of this name is passed over.
@@ -139,11 +141,7 @@ fn read_method<'a>(
     prove!(at <= bytes.len());
     let declared = find_declared(pool, at)?;
     if table.has(declared.name.bytes, declared.desc.bytes) {
-        return Err(ReadError::Fault(fault_at(
-            at,
-            0,
-            ClassRule::DoubleMethod,
-        )));
+        return Err(ReadError::Fault(fault_at(at, 0, ClassRule::DoubleMethod)));
     }
     let after = pass_attributes(pool, at + 6)?;
     let method = make_method(alloc, names, &declared)?;

@@ -1,10 +1,10 @@
 -- What it means that bytes are a class file with a view (JVMS 4). Read besides: which first fault they have instead.
-use Rattle.std.specs.Prelude.{◌≡◌, ◌≢◌, ℕ, zero, suc, ◌+◌, ◌<◌, ◌≤◌, ◌^◌, List, [], ◌∷◌, length, codes, Option, Some, None, Err}
+use Rattle.std.specs.Prelude.{◌≡◌, ◌≢◌, ℕ, zero, suc, ◌+◌, ◌<◌, ◌≤◌, ◌^◌, List, [], ◌∷◌, length, Bool, true, false, ◌||◌, codes, Option, Some, None, Err, ◌==◌, if◌then◌else◌}
 use Rattle.std.specs.List.{flat_map, slice_get, AllByRecursion, AllPairs, AllZip}
 use Rattle.fcg_views.specs.declared.view.View.{View}
 use Rattle.fcg_views.specs.declared.view.Method.{Method}
 use Rattle.fcg_views.specs.declared.fault.ClassFault.{ClassFault}
-use Rattle.fcg_views.specs.ClassFile.{Constant, Utf8, Class, Attribute, MethodInfo, ClassFile, spelling}
+use Rattle.fcg_views.specs.ClassFile.{Shape, Bytes, One, Two, shape_of, is_one_of, Constant, Utf8, Plain, Named, Pair, Handle, tag_of, slots, wants, Attribute, MethodInfo, ClassFile, spelling}
 use Rattle.fcg_views.specs.Descriptor.{IsDescriptor}
 use Rattle.fcg_views.specs.Breaks.Class.{class_of}
 
@@ -22,30 +22,36 @@ IsGroup (a ∷ b ∷ c ∷ d ∷ more) = ⊥
 abbrev pub AreGroups : List ℕ → Type 0
 AreGroups text = (groups : List (List ℕ)) × AllByRecursion IsGroup groups × (text ≡ flat_map (λ group. group) groups)
 
--- the constant at an index; index 0 names nothing
+-- the constant at an index; index 0 names nothing, nor does the second of a Long or Double
+abbrev pub joined : Option (Option Constant) → Option Constant
+joined None = None
+joined (Some slot) = slot
+
 abbrev pub constant_at : List Constant → ℕ → Option Constant
 constant_at pool zero = None
-constant_at pool (suc i) = slice_get pool i
+constant_at pool (suc i) = joined (slice_get (slots pool) i)
 
 abbrev pub NamesUtf8 : List Constant → ℕ → List ℕ → Type 0
 NamesUtf8 pool index text = constant_at pool index ≡ Some (Utf8 text)
 
 abbrev pub NamesClass : List Constant → ℕ → List ℕ → Type 0
-NamesClass pool index name = (i : ℕ) × (constant_at pool index ≡ Some (Class i)) × NamesUtf8 pool i name
+NamesClass pool index name = (i : ℕ) × (constant_at pool index ≡ Some (Named 7 i)) × NamesUtf8 pool i name
 
--- what a constant keeps by itself, and in its pool
+-- what a constant keeps by itself
 abbrev pub Fits : Constant → Type 0
 Fits (Utf8 text) = (length text < 2 ^ 16) × AreGroups text
-Fits (Class name) = name < 2 ^ 16
+Fits (Plain tag bytes) = shape_of tag ≡ Some (Bytes (length bytes))
+Fits (Named tag i) = (shape_of tag ≡ Some One) × (i < 2 ^ 16)
+Fits (Pair tag i j) = (shape_of tag ≡ Some Two) × (i < 2 ^ 16) × (j < 2 ^ 16)
+Fits (Handle kind i) = i < 2 ^ 16
 
-abbrev pub IsNamed : List Constant → Constant → Type 0
-IsNamed pool (Utf8 text) = Unit {0}
-IsNamed pool (Class name) = (text : List ℕ) × NamesUtf8 pool name text
+abbrev pub HasTag : List Constant → ℕ × List ℕ → Type 0
+HasTag pool want = (c : Constant) × (constant_at pool want.0 ≡ Some c) × (is_one_of want.1 (tag_of c) ≡ true)
 
 pub record IsPool (pool : List Constant) : Type 0 where
-  pub few : 1 + length pool < 2 ^ 16
+  pub few : 1 + length (slots pool) < 2 ^ 16
   pub fit : AllByRecursion Fits pool
-  pub named : AllByRecursion (IsNamed pool) pool
+  pub named : AllByRecursion (λ c. AllByRecursion (HasTag pool) (wants c)) pool
 
 -- a type's name has a byte or more
 abbrev pub NamesType : List Constant → ℕ → List ℕ → Type 0

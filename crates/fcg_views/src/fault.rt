@@ -1,8 +1,35 @@
 //! Why bytes are no class file.
 ghost use Rattle.std.specs.Prelude.{◌≡◌};
-ghost use Rattle.fcg_views.specs.Breaks.Fault.{fault, at_place};
+ghost use Rattle.fcg_views.specs.Breaks.Pool.{pool_fault};
+ghost use Rattle.fcg_views.specs.Breaks.Fault.{fault, rule_of, fault_of, at_place};
 
 use fcg_grammar::ReadError;
+
+/// A rule of constant pools that bytes break.
+#[derive(Clone, Copy, Debug, PartialEq, Eq)]
+pub enum PoolRule {
+    /// A number or a string of bytes passes the file's end.
+    Cut,
+    /// A tag that no constant has (JVMS 4.4, table 4.4-A).
+    BadTag,
+    /// A Utf8 isn't modified UTF-8 (JVMS 4.4.7).
+    BadUtf8,
+    /// An index is 0, past the pool, or the second of a Long or Double, or a Long or Double has no second index.
+    BadIndex,
+    /// An index names a constant of another kind than is asked, or a method handle has a kind outside 1 to 9.
+    WrongKind,
+}
+
+/// The first rule that is broken, in the order in which a constant pool is read.
+#[derive(Clone, Copy, Debug, PartialEq, Eq)]
+pub struct PoolFault {
+    /// The place of the item that breaks the rule, in bytes from the file's start; of a broken index, that of its
+    /// constant's tag. A place that is too large is given as the last value.
+    pub offset: u32,
+    /// The index of the constant that was read or checked, or 0.
+    pub index: u16,
+    pub rule: PoolRule,
+}
 
 /// A rule of class files that bytes break.
 #[derive(Clone, Copy, Debug, PartialEq, Eq)]
@@ -13,11 +40,13 @@ pub enum ClassRule {
     Version,
     /// A number or a string of bytes passes the file's end.
     Cut,
+    /// A tag that no constant has.
+    BadTag,
     /// A Utf8 isn't modified UTF-8 (JVMS 4.4.7).
     BadUtf8,
-    /// An index is 0 or past the constant pool.
+    /// An index names nothing.
     BadIndex,
-    /// An index names an entry of another kind than is asked.
+    /// An index names a constant of another kind than is asked.
     WrongKind,
     /// A descriptor is outside the grammar (JVMS 4.3).
     Descriptor,
@@ -27,8 +56,7 @@ pub enum ClassRule {
     DoubleMethod,
     /// Bytes stand after the class file's end.
     Trailing,
-    /// What isn't read yet: a constant other than Utf8 and Class, a module, a field, an attribute Code or
-    /// BootstrapMethods.
+    /// What isn't read yet: a module, a field, an attribute Code or BootstrapMethods.
     NotBuilt,
 }
 
@@ -54,13 +82,61 @@ pub fn fault_at(at: usize, index: u16, rule: ClassRule) -> ClassFault
     }
 }
 
+impl PoolRule {
+    /// The same rule of class files.
+    pub fn class_rule(self) -> ClassRule
+        ensures { result ≡ rule_of self }
+    {
+        match self {
+            PoolRule::Cut => ClassRule::Cut,
+            PoolRule::BadTag => ClassRule::BadTag,
+            PoolRule::BadUtf8 => ClassRule::BadUtf8,
+            PoolRule::BadIndex => ClassRule::BadIndex,
+            PoolRule::WrongKind => ClassRule::WrongKind,
+        }
+    }
+}
+
 /// A rule that the index at a place broke, as a fault at that place.
-pub fn at_index<T>(at: usize, index: u16, found: Result<T, ClassRule>) -> Result<T, ClassFault>
+pub fn at_index<T>(at: usize, index: u16, found: Result<T, PoolRule>) -> Result<T, ClassFault>
     ensures { result ≡ at_place at index found }
 {
     match found {
         Ok(value) => Ok(value),
-        Err(rule) => Err(fault_at(at, index, rule)),
+        Err(rule) => Err(fault_at(at, index, rule.class_rule())),
+    }
+}
+
+/// The fault of a constant whose place and index are given.
+pub fn pool_fault_at(at: usize, index: u16, rule: PoolRule) -> PoolFault
+    ensures { result ≡ pool_fault at index rule }
+{
+    PoolFault {
+        offset: u32::try_from(at).unwrap_or(u32::MAX),
+        index,
+        rule,
+    }
+}
+
+impl From<PoolFault> for ClassFault {
+    ghost from_gives = { λ f e. e ≡ fault_of f };
+
+    fn from(fault: PoolFault) -> ClassFault {
+        ClassFault {
+            offset: fault.offset,
+            index: fault.index,
+            rule: fault.rule.class_rule(),
+        }
+    }
+}
+
+impl From<PoolFault> for ReadError<PoolFault> {
+    ghost use Rattle.fcg_grammar.specs.declared.error.ReadError.TheVariants as errors;
+
+    ghost from_gives = { λ f e. e ≡ errors.Fault f };
+
+    fn from(fault: PoolFault) -> ReadError<PoolFault> {
+        ReadError::Fault(fault)
     }
 }
 

@@ -4,7 +4,6 @@
 #![tactic(auto)]
 
 mod descriptor;
-mod entry;
 mod escaping;
 mod fault;
 mod items;
@@ -16,9 +15,10 @@ mod valid;
 mod view;
 
 pub use descriptor::{DescFault, DescSpan, read_descriptor};
-pub use entry::{Entry, Placed};
 pub use escaping::{Place, escape, push_escaped};
-pub use fault::{ClassFault, ClassRule, at_index, fault_at};
+pub use fault::{
+    ClassFault, ClassRule, PoolFault, PoolRule, at_index, fault_at, pool_fault_at,
+};
 pub use items::{Bytes, Fields, Items, Methods, Names, Sites, Views};
 pub use memory::NoMemory;
 pub use name::Name;

@@ -6,7 +6,7 @@ use Rattle.fcg_views.specs.declared.view.View.{View}
 use Rattle.fcg_views.specs.declared.view.Method.{Method}
 use Rattle.fcg_views.specs.declared.fault.ClassFault.{ClassFault}
 use Rattle.fcg_views.specs.declared.fault.ClassRule.TheVariants.{Magic, Version, EmptyName, Trailing, NotBuilt}
-use Rattle.fcg_views.specs.Breaks.Fault.{fault, at_place}
+use Rattle.fcg_views.specs.Breaks.Fault.{fault, in_pool, at_place}
 use Rattle.fcg_views.specs.Breaks.Number.{u2_at, u4_at}
 use Rattle.fcg_views.specs.Breaks.Pool.{Entries, name_of, text_of, pool_at}
 use Rattle.fcg_views.specs.Breaks.Members.{attributes_at, methods_at}
@@ -79,5 +79,5 @@ body_at pool at = do
 unfoldable pub class_of : List ℕ → Result View ClassFault
 class_of bytes = do
   header ← header_kept bytes
-  pool ← pool_at bytes 8
+  pool ← in_pool (pool_at bytes 8)
   body_at pool.0 pool.1

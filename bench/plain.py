@@ -96,8 +96,19 @@ def _need(condition):
         raise _NotPlain
 
 
+# the constants by their tags: what stands after the tag, and the tags that each index of these may name
+_LAYOUT = {
+    3: (">I", ()), 4: (">I", ()), 5: (">Q", ()), 6: (">Q", ()),
+    7: (">H", ((1,),)), 8: (">H", ((1,),)), 16: (">H", ((1,),)), 19: (">H", ((1,),)), 20: (">H", ((1,),)),
+    9: (">HH", ((7,), (12,))), 10: (">HH", ((7,), (12,))), 11: (">HH", ((7,), (12,))),
+    12: (">HH", ((1,), (1,))), 15: (">BH", None), 17: (">HH", (None, (12,))), 18: (">HH", (None, (12,))),
+}
+# the tags that a method handle of a kind may name
+_HANDLES = {1: (9,), 2: (9,), 3: (9,), 4: (9,), 5: (10,), 6: (10, 11), 7: (10, 11), 8: (10,), 9: (11,)}
+
+
 def _read_pool(reader):
-    """The constant pool: an index gives bytes (Utf8), an int (Class: the index of its name) or None."""
+    """The constant pool: an index gives the tag and the text (Utf8) or the numbers of an entry, or None."""
     count = reader.u2()
     pool = [None]
     while len(pool) < count:
@@ -105,27 +116,45 @@ def _read_pool(reader):
         if tag == 1:
             text = reader.take(reader.u2())
             _need(_UTF8.fullmatch(text))
-            pool.append(text)
-        elif tag == 7:
-            pool.append(reader.u2())
+            pool.append((tag, text))
         else:
-            raise _NotPlain
+            _need(tag in _LAYOUT)
+            layout = _LAYOUT[tag][0]
+            pool.append((tag, struct.unpack(layout, reader.take(struct.calcsize(layout)))))
+            if tag in (5, 6):
+                _need(len(pool) < count)
+                pool.append(None)
     for entry in pool:
-        if isinstance(entry, int):
-            _utf8(pool, entry)
+        if entry is not None and entry[0] != 1:
+            _check_entry(pool, *entry)
     return pool
+
+
+def _check_entry(pool, tag, numbers):
+    """Raises _NotPlain where an index of an entry names another kind of entry than it may."""
+    if tag == 15:
+        _need(numbers[0] in _HANDLES)
+        _entry(pool, numbers[1], _HANDLES[numbers[0]])
+        return
+    for index, tags in zip(numbers, _LAYOUT[tag][1]):
+        if tags is not None:
+            _entry(pool, index, tags)
+
+
+def _entry(pool, index, tags):
+    """What the entry at `index` holds, which has one of these tags."""
+    _need(index < len(pool) and pool[index] is not None and pool[index][0] in tags)
+    return pool[index][1]
 
 
 def _utf8(pool, index):
     """The bytes of the Utf8 entry at `index`."""
-    _need(index < len(pool) and isinstance(pool[index], bytes))
-    return pool[index]
+    return _entry(pool, index, (1,))
 
 
 def _class_name(pool, index):
     """The name, not empty, of the Class entry at `index`."""
-    _need(index < len(pool) and isinstance(pool[index], int))
-    name = _utf8(pool, pool[index])
+    name = _utf8(pool, _entry(pool, index, (7,))[0])
     _need(name)
     return name
 

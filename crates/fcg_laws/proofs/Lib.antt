@@ -1,6 +1,7 @@
 pub mod Places
 pub mod GroupLemmas
 pub mod GroupLaws
+pub mod PoolPlaces
 pub mod PoolLaws
 pub mod NameLaws
 pub mod Fresh

@@ -1,2 +1,3 @@
-pub mod Meaning
+pub mod Tables
+pub mod References
 pub mod Faults

@@ -1,15 +1,17 @@
 //! Laws of the definitions.
-ghost use Rattle.std.specs.Prelude.{◌≡◌, ℕ, List, Ok, Err};
+ghost use Rattle.std.specs.Prelude.{◌≡◌, ℕ, List, Option, Ok, Err};
 ghost use Rattle.fcg_grammar.specs.Rows.{each};
 ghost use Rattle.fcg_grammar.specs.Spell.{IsBytes};
 ghost use Rattle.fcg_grammar.specs.First.{BreaksFirst, AllKept};
 ghost use Rattle.fcg_views.specs.declared.view.View.{View};
+ghost use Rattle.fcg_views.specs.declared.fault.PoolFault.{PoolFault};
 ghost use Rattle.fcg_views.specs.declared.fault.ClassFault.{ClassFault};
-ghost use Rattle.fcg_views.specs.declared.entry.Placed.{Placed};
+ghost use Rattle.fcg_views.specs.ClassFile.{Constant};
 ghost use Rattle.fcg_views.specs.Reads.{Reads, Verdict};
 ghost use Rattle.fcg_views.specs.Valid.{IsValid};
-ghost use Rattle.fcg_views.specs.Breaks.Pool.{Entries, placed_kept, pool_at};
+ghost use Rattle.fcg_views.specs.Breaks.Pool.{Placed, Entries, slot_kept, pool_at};
 ghost use Rattle.fcg_views.specs.Breaks.Members.{methods_at};
+ghost use Rattle.fcg_laws.specs.Tables.{Holds};
 ghost use Rattle.fcg_laws.specs.Faults.{BrokenPool, BrokenMethods};
 
 /// Each string of bytes is a class file with one view, or has one first fault, and never both.
@@ -22,19 +24,19 @@ pub fn class_files_are_valid()
     ensures { (bytes : List ℕ) (v : View) → Reads bytes v → IsValid v }
 {}
 
-/// The check of a pool's own indexes finds nothing only where each entry keeps its rule, and else the first entry
-/// that breaks one.
+/// The check of a pool's own indexes finds nothing only where each slot keeps its rule, and else the first slot that
+/// breaks one.
 pub fn pool_check_is_first()
-    ensures kept { (pool : Entries) (entries : List Placed) → each (placed_kept pool) 1 entries ≡ Ok tt → AllKept (placed_kept pool) 1 entries }
-    ensures broken { (pool : Entries) (entries : List Placed) (f : ClassFault) → each (placed_kept pool) 1 entries ≡ Err f → BreaksFirst (placed_kept pool) 1 entries f }
+    ensures kept { (pool : Entries) (slots : List (Option Placed)) → each (slot_kept pool) 1 slots ≡ Ok tt → AllKept (slot_kept pool) 1 slots }
+    ensures broken { (pool : Entries) (slots : List (Option Placed)) (f : PoolFault) → each (slot_kept pool) 1 slots ≡ Err f → BreaksFirst (slot_kept pool) 1 slots f }
 {}
 
 /// What stands in a pool before its first fault.
 pub fn first_fault_of_pool()
-    ensures { (bytes : List ℕ) (at : ℕ) (f : ClassFault) → IsBytes bytes → pool_at bytes at ≡ Err f → BrokenPool bytes at f }
+    ensures { (bytes : List ℕ) (at : ℕ) (f : PoolFault) → IsBytes bytes → pool_at bytes at ≡ Err f → BrokenPool bytes at f }
 {}
 
-/// What stands in the methods before their first fault.
+/// What stands in the methods before their first fault, where the pool has these constants.
 pub fn first_fault_of_methods()
-    ensures { (pool : Entries) (at : ℕ) (f : ClassFault) → IsBytes pool.bytes → methods_at pool at ≡ Err f → BrokenMethods pool at f }
+    ensures { (pool : Entries) (constants : List Constant) (at : ℕ) (f : ClassFault) → IsBytes pool.bytes → Holds pool constants → methods_at pool at ≡ Err f → BrokenMethods pool constants at f }
 {}

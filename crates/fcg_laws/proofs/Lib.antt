@@ -3,6 +3,7 @@ pub mod GroupLemmas
 pub mod GroupLaws
 pub mod PoolPlaces
 pub mod PoolLaws
+pub mod SlotLaws
 pub mod NameLaws
 pub mod Fresh
 pub mod WordLaws

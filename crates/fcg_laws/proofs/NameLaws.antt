@@ -1,183 +1,154 @@
--- What an index names, in the code's pool and in the file's.
-use Rattle.std.proofs.Common.{◌≡◌, ℕ, zero, suc, ◌+◌, ◌-◌, ◌^◌, ◌<◌, List, [], ◌∷◌, ◌++◌, length, Option, Some, None, refl, sym, ap, subst, ◌∙◌, arith}
-use Rattle.std.specs.Prelude.{Result, Ok, Err, map, option_map}
-use Rattle.std.specs.List.{flat_map, slice_get, AllByRecursion, AllZip}
+-- What an index names, in the pool that is read and in the file's.
+use Rattle.std.proofs.Common.{◌≡◌, ℕ, zero, suc, Bool, true, false, eqb, List, [], ◌∷◌, Option, Some, None, refl, sym, ap, subst, ◌∙◌}
+use Rattle.std.specs.Prelude.{Result, Ok, Err, option_map}
+use Rattle.std.specs.List.{slice_get}
+use Rattle.std.proofs.lemmas.Bool.{eqb-true}
 use Rattle.std.proofs.lemmas.Option.{slice_get-map}
-use Rattle.fcg_views.specs.declared.fault.ClassRule.{ClassRule}
-use Rattle.fcg_views.specs.declared.entry.Entry.{Entry}
-use Rattle.fcg_views.specs.declared.entry.Entry.TheVariants as entries
-use Rattle.fcg_views.specs.declared.entry.Placed.{Placed}
+use Rattle.fcg_grammar.specs.Reading.{◌>>=◌, unless_broken}
+use Rattle.fcg_grammar.proofs.LawLemmas.{bind_ok, kept_ok}
+use Rattle.fcg_grammar.proofs.Standing.{ok_is}
+use Rattle.fcg_views.specs.declared.fault.PoolRule.{PoolRule}
+use Rattle.fcg_views.specs.declared.fault.PoolRule.TheVariants.{WrongKind}
+use Rattle.fcg_views.specs.ClassFile.{is_one_of, Constant, Utf8, Plain, Named, Pair, Handle, slots}
+use Rattle.fcg_views.specs.Reads.{joined, constant_at, NamesUtf8, NamesClass}
 use Rattle.fcg_views.specs.Breaks.Fault.{at_place}
-use Rattle.fcg_grammar.specs.Reading.{◌>>=◌}
-use Rattle.fcg_grammar.specs.Rows.{rows, each}
-use Rattle.fcg_grammar.specs.Number.{part}
-use Rattle.fcg_views.specs.Breaks.Number.{u2_at}
-use Rattle.fcg_views.specs.Breaks.Pool.{Entries, entry_of, text_in, name_in, text_of, name_of, entry_kept, placed_kept, placed_at, pool_at}
-use Rattle.fcg_grammar.specs.Spell.{IsBytes, u2}
-use Rattle.fcg_views.specs.ClassFile.{Constant, Utf8, Class, constant}
-use Rattle.fcg_views.specs.Reads.{Fits, IsNamed, constant_at, NamesUtf8, NamesClass, IsPool}
-use Rattle.fcg_grammar.proofs.LawLemmas.{bind_ok}
-use Rattle.fcg_grammar.proofs.Standing.{Stands, Stands-then, ok_is}
-use Rattle.fcg_laws.proofs.Places.{u2_found, u2_only}
-use Rattle.fcg_grammar.proofs.RowLaws.{rows_found, rows_only}
-use Rattle.fcg_laws.specs.Meaning.{meaning, mean, table_of}
-use Rattle.fcg_laws.proofs.PoolLaws.{Means, placed_found, placed_only}
+use Rattle.fcg_views.specs.Breaks.Pool.{Placed, Entries, in_slot, constant_of, text_in, text_of, name_in, name_of, Indexes, pair_in, pair_of, Reference, reference_of}
+use Rattle.fcg_laws.specs.Tables.{unplaced, Holds}
+use Rattle.fcg_laws.specs.References.{NamesPair, NamesMember, NamesReference}
 
-entry_by : (pool : Entries) (i : ℕ) (o : Option Placed) → slice_get pool.entries i ≡ o → (e : Entry) → entry_of pool.entries (suc i) ≡ Ok e → option_map (mean pool.bytes) o ≡ Some (meaning pool.bytes e)
-unfolding entry_of
-entry_by pool i None is e r = let bad = rw is at r in absurd cc
-entry_by pool i (Some p) is e r = let same = rw is at r in let entry : p.entry ≡ e = cc in ap (λ (x : Entry). Some (meaning pool.bytes x)) entry
-
-pub entry_found : (pool : Entries) (index : ℕ) (e : Entry) → entry_of pool.entries index ≡ Ok e → constant_at (table_of pool) index ≡ Some (meaning pool.bytes e)
-unfolding entry_of
-entry_found pool zero e is = absurd cc
-entry_found pool (suc i) e is = slice_get-map (mean pool.bytes) pool.entries i ∙ entry_by pool i (slice_get pool.entries i) refl e is
-
-constant_by : (pool : Entries) (i : ℕ) (o : Option Placed) → slice_get pool.entries i ≡ o → (c : Constant) → option_map (mean pool.bytes) o ≡ Some c → (e : Entry) × (entry_of pool.entries (suc i) ≡ Ok e) × (meaning pool.bytes e ≡ c)
-unfolding entry_of
-constant_by pool i None is c r = absurd cc
-constant_by pool i (Some p) is c r = (p.entry, rw is refl, cc)
-
-pub entry_only : (pool : Entries) (index : ℕ) (c : Constant) → constant_at (table_of pool) index ≡ Some c → (e : Entry) × (entry_of pool.entries index ≡ Ok e) × (meaning pool.bytes e ≡ c)
-unfolding entry_of
-entry_only pool zero c is = absurd cc
-entry_only pool (suc i) c is = constant_by pool i (slice_get pool.entries i) refl c (sym (slice_get-map (mean pool.bytes) pool.entries i) ∙ is)
-
-text_by : (bytes : List ℕ) (e : Entry) (text : List ℕ) → text_in bytes e ≡ Ok text → meaning bytes e ≡ Utf8 text
-text_by bytes (entries.Utf8 at n) text is = let same : part bytes at n ≡ text = cc in ap Utf8 same
-text_by bytes (entries.Class name) text is = absurd cc
-
-pub text_found : (pool : Entries) (index : ℕ) (text : List ℕ) → text_of pool index ≡ Ok text → NamesUtf8 (table_of pool) index text
-unfolding text_of
-text_found pool index text is =
-    let b = bind_ok (entry_of pool.entries index) _ text is in
-    entry_found pool index b.0 b.1 ∙ ap (λ (c : Constant). Some c) (text_by pool.bytes b.0 text b.2)
-
-text_back : (bytes : List ℕ) (e : Entry) (text : List ℕ) → meaning bytes e ≡ Utf8 text → text_in bytes e ≡ Ok text
-text_back bytes (entries.Utf8 at n) text is = let same : part bytes at n ≡ text = cc in ap (λ (t : List ℕ). Ok t) same
-text_back bytes (entries.Class name) text is = absurd cc
-
-pub text_only : (pool : Entries) (index : ℕ) (text : List ℕ) → NamesUtf8 (table_of pool) index text → text_of pool index ≡ Ok text
-unfolding text_of
-text_only pool index text is =
-    let e = entry_only pool index (Utf8 text) is in
-    rw e.1 (text_back pool.bytes e.0 text e.2)
-
-name_by : (bytes : List ℕ) (e : Entry) (i : ℕ) → name_in e ≡ Ok i → meaning bytes e ≡ Class i
-name_by bytes (entries.Utf8 at n) i is = absurd cc
-name_by bytes (entries.Class name) i is = let same : name ≡ i = cc in ap Class same
-
-name_back : (bytes : List ℕ) (e : Entry) (i : ℕ) → meaning bytes e ≡ Class i → name_in e ≡ Ok i
-name_back bytes (entries.Utf8 at n) i is = absurd cc
-name_back bytes (entries.Class name) i is = let same : name ≡ i = cc in ap (λ (t : ℕ). Ok t) same
-
--- the name of a Class: the index that it holds, and the text that this names
-pub class_name_found : (pool : Entries) (index : ℕ) (name : List ℕ) → (name_of pool index >>= text_of pool) ≡ Ok name → NamesClass (table_of pool) index name
-unfolding name_of
-class_name_found pool index name is =
-    let b = bind_ok (name_of pool index) (text_of pool) name is in
-    let a = bind_ok (entry_of pool.entries index) _ b.0 b.1 in
-    (b.0, entry_found pool index a.0 a.1 ∙ ap (λ (c : Constant). Some c) (name_by pool.bytes a.0 b.0 a.2), text_found pool b.0 name b.2)
-
-pub class_name_only : (pool : Entries) (index : ℕ) (name : List ℕ) → NamesClass (table_of pool) index name → (name_of pool index >>= text_of pool) ≡ Ok name
-unfolding name_of
-class_name_only pool index name is =
-    let e = entry_only pool index (Class is.0) is.1 in
-    rw (e.1, name_back pool.bytes e.0 is.0 e.2) (text_only pool is.0 name is.2)
-
--- ---- what the pool's own indexes name
-pub at_ok : {A : Type 0} (at index : ℕ) (r : Result A ClassRule) (x : A) → at_place at index r ≡ Ok x → r ≡ Ok x
+pub at_ok : {A : Type 0} (at index : ℕ) (r : Result A PoolRule) (x : A) → at_place at index r ≡ Ok x → r ≡ Ok x
 at_ok at index (Ok y) x e = let same : y ≡ x = cc in ap (λ (z : _). Ok z) same
 at_ok at index (Err rule) x e = absurd cc
 
-kept_by : (pool : Entries) (e : Entry) (u : Unit {0}) → entry_kept pool e ≡ Ok u → IsNamed (table_of pool) (meaning pool.bytes e)
-kept_by pool (entries.Utf8 at n) u is = tt
-kept_by pool (entries.Class name) u is =
-    let b = bind_ok (text_of pool name) _ u is in
-    (b.0, text_found pool name b.0 b.1)
+abbrev bare : Option Placed → Option Constant
+bare slot = option_map (λ p. p.constant) slot
 
-kept_back : (pool : Entries) (e : Entry) → IsNamed (table_of pool) (meaning pool.bytes e) → entry_kept pool e ≡ Ok tt
-kept_back pool (entries.Utf8 at n) is = refl
-kept_back pool (entries.Class name) is = rw (text_only pool name is.0 is.1) refl
+slot_by : (o : Option (Option Placed)) (c : Constant) → in_slot o ≡ Ok c → joined (option_map bare o) ≡ Some c
+slot_by None c e = absurd cc
+slot_by (Some None) c e = absurd cc
+slot_by (Some (Some p)) c e = let same : p.constant ≡ c = cc in ap (λ (x : Constant). Some x) same
 
-pub each_found : (pool : Entries) (k : ℕ) (ps : List Placed) (u : Unit {0}) → each (placed_kept pool) k ps ≡ Ok u → AllByRecursion (IsNamed (table_of pool)) (map (mean pool.bytes) ps)
-unfolding placed_kept
-each_found pool k [] u is = tt
-each_found pool k (p ∷ ps) u is =
-    let b = bind_ok (placed_kept pool k p) _ u is in
-    (kept_by pool p.entry b.0 (at_ok p.tag k (entry_kept pool p.entry) b.0 b.1), each_found pool (k + 1) ps u b.2)
+slot_back : (o : Option (Option Placed)) (c : Constant) → joined (option_map bare o) ≡ Some c → in_slot o ≡ Ok c
+slot_back None c e = absurd cc
+slot_back (Some None) c e = absurd cc
+slot_back (Some (Some p)) c e = let same : p.constant ≡ c = cc in ap (λ (x : Constant). Ok x) same
 
-pub each_only : (pool : Entries) (k : ℕ) (ps : List Placed) → AllByRecursion (IsNamed (table_of pool)) (map (mean pool.bytes) ps) → each (placed_kept pool) k ps ≡ Ok tt
-unfolding placed_kept
-each_only pool k [] is = refl
-each_only pool k (p ∷ ps) is = rw (kept_back pool p.entry is.0, each_only pool (k + 1) ps is.1) refl
+text_by : (c : Constant) (text : List ℕ) → text_in c ≡ Ok text → c ≡ Utf8 text
+text_by (Utf8 t) text e = let same : t ≡ text = cc in ap Utf8 same
+text_by (Plain tag bytes) text e = absurd cc
+text_by (Named tag i) text e = absurd cc
+text_by (Pair tag i j) text e = absurd cc
+text_by (Handle kind i) text e = absurd cc
 
--- ---- the pool
-pub means_map : (bytes : List ℕ) (cs : List Constant) (ps : List Placed) → AllZip (Means bytes) cs ps → (map (mean bytes) ps ≡ cs) × AllByRecursion Fits cs
-means_map bytes [] [] m = (refl, tt)
-means_map bytes [] (p ∷ ps) m = absurd m
-means_map bytes (c ∷ cs) [] m = absurd m
-means_map bytes (c ∷ cs) (p ∷ ps) m =
-    let below = means_map bytes cs ps m.1 in
-    let here = m.0.0 in
-    let others = below.0 in
-    (cc, (m.0.1, below.1))
+name_by : (c : Constant) (i : ℕ) → name_in c ≡ Ok i → c ≡ Named 7 i
+name_by (Utf8 text) i e = absurd cc
+name_by (Plain tag bytes) i e = absurd cc
+name_by (Named tag j) i e =
+    let a = bind_ok (unless_broken (eqb tag 7) WrongKind) _ i e in
+    let tag_is : tag ≡ 7 = eqb-true _ _ (kept_ok _ _ a.0 a.1) in
+    let same : j ≡ i = ok_is j i a.2 in
+    rw (tag_is, same) refl
+name_by (Pair tag j k) i e = absurd cc
+name_by (Handle kind j) i e = absurd cc
 
-module _ (bytes : List ℕ) where
-  -- the pool that was read, and its count (of a pool without entries the count may be 0)
-  pub record FoundPool (at : ℕ) (pool : Entries) (after : ℕ) : Type 0 where
-    pub bytes_are : pool.bytes ≡ bytes
-    pub count : ℕ
-    pub stands : Stands bytes at (u2 count ++ flat_map constant (table_of pool)) after
-    pub many : length (table_of pool) ≡ count - 1
-    pub few : count < 2 ^ 16
-    pub fit : AllByRecursion Fits (table_of pool)
-    pub named : AllByRecursion (IsNamed (table_of pool)) (table_of pool)
+pair_by : (tags : List ℕ) (c : Constant) (p : Indexes) → pair_in tags c ≡ Ok p → (c ≡ Pair p.tag p.first p.second) × (is_one_of tags p.tag ≡ true)
+pair_by tags (Utf8 text) p e = absurd cc
+pair_by tags (Plain tag bytes) p e = absurd cc
+pair_by tags (Named tag i) p e = absurd cc
+pair_by tags (Pair tag i j) p e =
+    let a = bind_ok (unless_broken (is_one_of tags tag) WrongKind) _ p e in
+    let made : Indexes = record { tag = tag; first = i; second = j } in
+    let same : made ≡ p = ok_is made p a.2 in
+    (ap (λ (x : Indexes). Pair x.tag x.first x.second) same, ap (λ (x : Indexes). is_one_of tags x.tag) (sym same) ∙ kept_ok _ _ a.0 a.1)
+pair_by tags (Handle kind i) p e = absurd cc
 
-  pub pool_found : IsBytes bytes → (at : ℕ) (x : Entries × ℕ) → pool_at bytes at ≡ Ok x → FoundPool at x.0 x.1
-  unfolding pool_at
-  pool_found fits at x e =
-      let whole : List Placed → Entries = λ (ps : List Placed). record { bytes = bytes; entries = ps } in
-      let a = bind_ok (u2_at bytes at 0) _ x e in
-      let b = bind_ok (rows (placed_at bytes) (a.0 - 1) 1 (at + 2)) _ x a.2 in
-      let c = bind_ok (each (placed_kept (whole b.0.0)) 1 b.0.0) _ x b.2 in
-      let count = u2_found bytes at 0 a.0 fits a.1 in
-      let rest = rows_found bytes constant (Means bytes) (placed_at bytes) (placed_found bytes fits) (a.0 - 1) 1 (at + 2) b.0 count.0.within b.1 in
-      let same = means_map bytes rest.table b.0.0 rest.meant in
-      let made : Entries × ℕ = (whole b.0.0, b.0.1) in
-      subst (λ (y : Entries × ℕ). FoundPool at y.0 y.1) (ok_is made x c.2) (record {
-        bytes_are = refl;
-        count = a.0;
-        stands = subst (λ (cs : List Constant). Stands bytes at (u2 a.0 ++ flat_map constant cs) b.0.1) (sym same.0) (Stands-then count.0 rest.stands);
-        many = ap length same.0 ∙ rest.many;
-        few = count.1;
-        fit = subst (λ (cs : List Constant). AllByRecursion Fits cs) (sym same.0) same.1;
-        named = each_found (whole b.0.0) 1 b.0.0 c.0 c.1;
-      })
+only_twelve : (tag : ℕ) → is_one_of (12 ∷ []) tag ≡ true → tag ≡ 12
+only_twelve tag e = by_test (eqb 12 tag) refl e
+  where
+    by_test : (b : Bool) → eqb 12 tag ≡ b → is_one_of (12 ∷ []) tag ≡ true → tag ≡ 12
+    by_test true is e = sym (eqb-true _ _ is)
+    by_test false is e = (let bad = rw is at e in absurd cc)
 
-  pub record ReadPool (at : ℕ) (table : List Constant) (rest : List ℕ) (after : ℕ) : Type 0 where
-    pub pool : Entries
-    pub end : ℕ
-    pub read_is : pool_at bytes at ≡ Ok (pool, end)
-    pub bytes_are : pool.bytes ≡ bytes
-    pub same : table_of pool ≡ table
-    pub stands : Stands bytes end rest after
+module _ (pool : Entries) (constants : List Constant) (holds : Holds pool constants) where
+  pub constant_found : (index : ℕ) (c : Constant) → constant_of pool index ≡ Ok c → constant_at constants index ≡ Some c
+  unfolding constant_of
+  constant_found zero c e = absurd cc
+  constant_found (suc i) c e =
+      ap (λ (l : List (Option Constant)). joined (slice_get l i)) (sym holds) ∙ ap joined (slice_get-map bare pool.slots i) ∙ slot_by (slice_get pool.slots i) c e
 
-  pub pool_only : (at : ℕ) (table : List Constant) (rest : List ℕ) (after : ℕ) → IsPool table → Stands bytes at (u2 (1 + length table) ++ flat_map constant table ++ rest) after → ReadPool at table rest after
-  unfolding pool_at
-  pool_only at table rest after is s =
-      let n = u2_only bytes at 0 (1 + length table) (flat_map constant table ++ rest) after is.few s in
-      let r = rows_only bytes constant (Means bytes) (placed_at bytes) Fits (placed_only bytes) 1 (at + 2) table rest after is.fit n.1 in
-      let same = means_map bytes table r.values r.meant in
-      let pool : Entries = record { bytes = bytes; entries = r.values } in
-      let named = subst (λ (cs : List Constant). AllByRecursion (IsNamed cs) cs) (sym same.0) is.named in
-      let kept = each_only pool 1 r.values named in
-      let less : 1 + length table - 1 ≡ length table = omega arith in
-      record {
-        pool = pool;
-        end = r.end;
-        read_is = rw (n.0, less, r.read_is, kept) refl;
-        bytes_are = refl;
-        same = same.0;
-        stands = r.stands;
-      }
+  pub constant_only : (index : ℕ) (c : Constant) → constant_at constants index ≡ Some c → constant_of pool index ≡ Ok c
+  unfolding constant_of
+  constant_only zero c e = absurd cc
+  constant_only (suc i) c e =
+      slot_back (slice_get pool.slots i) c (sym (ap joined (slice_get-map bare pool.slots i)) ∙ ap (λ (l : List (Option Constant)). joined (slice_get l i)) holds ∙ e)
+
+  pub text_found : (index : ℕ) (text : List ℕ) → text_of pool index ≡ Ok text → NamesUtf8 constants index text
+  unfolding text_of
+  text_found index text e =
+      let a = bind_ok (constant_of pool index) text_in text e in
+      constant_found index a.0 a.1 ∙ ap (λ (c : Constant). Some c) (text_by a.0 text a.2)
+
+  pub text_only : (index : ℕ) (text : List ℕ) → NamesUtf8 constants index text → text_of pool index ≡ Ok text
+  unfolding text_of
+  text_only index text is = rw (constant_only index (Utf8 text) is) refl
+
+  pub name_found : (index i : ℕ) → name_of pool index ≡ Ok i → constant_at constants index ≡ Some (Named 7 i)
+  unfolding name_of
+  name_found index i e =
+      let a = bind_ok (constant_of pool index) name_in i e in
+      constant_found index a.0 a.1 ∙ ap (λ (c : Constant). Some c) (name_by a.0 i a.2)
+
+  pub name_only : (index i : ℕ) → constant_at constants index ≡ Some (Named 7 i) → name_of pool index ≡ Ok i
+  unfolding name_of
+  name_only index i is = rw (constant_only index (Named 7 i) is) refl
+
+  -- the name of a Class: the index that it holds, and the text that this names
+  pub class_name_found : (index : ℕ) (name : List ℕ) → (name_of pool index >>= text_of pool) ≡ Ok name → NamesClass constants index name
+  class_name_found index name e =
+      let a = bind_ok (name_of pool index) (text_of pool) name e in
+      (a.0, name_found index a.0 a.1, text_found a.0 name a.2)
+
+  pub class_name_only : (index : ℕ) (name : List ℕ) → NamesClass constants index name → (name_of pool index >>= text_of pool) ≡ Ok name
+  class_name_only index name is = rw (name_only index is.0 is.1) (text_only is.0 name is.2)
+
+  pub pair_found : (tags : List ℕ) (index : ℕ) (pair : Indexes) → pair_of pool tags index ≡ Ok pair → NamesPair constants tags index pair
+  unfolding pair_of
+  pair_found tags index pair e =
+      let a = bind_ok (constant_of pool index) (pair_in tags) pair e in
+      let p = pair_by tags a.0 pair a.2 in
+      (constant_found index a.0 a.1 ∙ ap (λ (c : Constant). Some c) p.0, p.1)
+
+  pub pair_only : (tags : List ℕ) (index : ℕ) (pair : Indexes) → NamesPair constants tags index pair → pair_of pool tags index ≡ Ok pair
+  unfolding pair_of
+  pair_only tags index pair is = rw (constant_only index (Pair pair.tag pair.first pair.second) is.0, is.1) refl
+
+  pub reference_found : (index : ℕ) (r : Reference) → reference_of pool index ≡ Ok r → NamesReference constants index r
+  unfolding reference_of
+  reference_found index r e =
+      let a = bind_ok (pair_of pool (9 ∷ 10 ∷ 11 ∷ []) index) _ r e in
+      let b = bind_ok (name_of pool a.0.first) _ r a.2 in
+      let c = bind_ok (text_of pool b.0) _ r b.2 in
+      let d = bind_ok (pair_of pool (12 ∷ []) a.0.second) _ r c.2 in
+      let f = bind_ok (text_of pool d.0.first) _ r d.2 in
+      let g = bind_ok (text_of pool d.0.second) _ r f.2 in
+      let pair = pair_found (9 ∷ 10 ∷ 11 ∷ []) index a.0 a.1 in
+      let member = pair_found (12 ∷ []) a.0.second d.0 d.1 in
+      let twelve = only_twelve d.0.tag member.1 in
+      let made : Reference = record { tag = a.0.tag; owner = c.0; name = f.0; desc = g.0 } in
+      subst (NamesReference constants index) (ok_is made r g.2) (
+        a.0.first,
+        a.0.second,
+        pair.0,
+        pair.1,
+        (b.0, name_found a.0.first b.0 b.1, text_found b.0 c.0 c.1),
+        (d.0.first, d.0.second, member.0 ∙ ap (λ (t : ℕ). Some (Pair t d.0.first d.0.second)) twelve, text_found d.0.first f.0 f.1, text_found d.0.second g.0 g.1)
+      )
+
+  pub reference_only : (index : ℕ) (r : Reference) → NamesReference constants index r → reference_of pool index ≡ Ok r
+  unfolding reference_of
+  reference_only index r (i, j, pair, tag, class, (n, d, member, name, desc)) =
+      let p = pair_only (9 ∷ 10 ∷ 11 ∷ []) index (record { tag = r.tag; first = i; second = j }) (pair, tag) in
+      let c = name_only i class.0 class.1 in
+      let owner = text_only class.0 r.owner class.2 in
+      let m = pair_only (12 ∷ []) j (record { tag = 12; first = n; second = d }) (member, refl) in
+      rw (p, c, owner, m, text_only n r.name name, text_only d r.desc desc) refl

@@ -10,7 +10,7 @@ use Rattle.fcg_grammar.proofs.LawLemmas.{bind_ok, kept_ok}
 use Rattle.fcg_grammar.proofs.Standing.{Stands, Stands-then, Stands-to, ok_is}
 use Rattle.fcg_grammar.proofs.RowLaws.{FoundRow, ReadRow, rows_found, rows_only}
 use Rattle.fcg_views.specs.declared.fault.ClassRule.TheVariants.{NotBuilt}
-use Rattle.fcg_views.specs.ClassFile.{Attribute, attribute}
+use Rattle.fcg_views.specs.ClassFile.{Constant, Attribute, attribute}
 use Rattle.fcg_views.specs.Reads.{NamesUtf8, IsPassed, ArePassed}
 use Rattle.fcg_views.specs.Breaks.Words.{is_passed}
 use Rattle.fcg_views.specs.Breaks.Fault.{fault}
@@ -18,7 +18,7 @@ use Rattle.fcg_views.specs.Breaks.Number.{u2_at, u4_at, part_at}
 use Rattle.fcg_views.specs.Breaks.Pool.{Entries, text_of}
 use Rattle.fcg_views.specs.Breaks.Members.{text_at, attribute_at, attributes_at}
 use Rattle.fcg_laws.proofs.Places.{u2_found, u2_only, u4_found, u4_only, part_found, part_only, closed, opened}
-use Rattle.fcg_laws.specs.Meaning.{table_of}
+use Rattle.fcg_laws.specs.Tables.{Holds}
 use Rattle.fcg_laws.proofs.WordLaws.{passed_found, passed_only}
 use Rattle.fcg_laws.proofs.NameLaws.{text_found, text_only, at_ok}
 
@@ -31,29 +31,29 @@ zip_left R P h (c ∷ cs) (x ∷ xs) z = (h c x z.0, zip_left R P h cs xs z.1)
 pub six : (at : ℕ) → at + 2 + 4 ≡ at + 6
 six at = omega arith
 
-module _ (pool : Entries) (fits : IsBytes pool.bytes) where
+module _ (pool : Entries) (fits : IsBytes pool.bytes) (constants : List Constant) (holds : Holds pool constants) where
   pub record FoundText (at : ℕ) (text : List ℕ) : Type 0 where
     pub index : ℕ
     pub few : index < 2 ^ 16
     pub stands : Stands pool.bytes at (u2 index) (at + 2)
-    pub named : NamesUtf8 (table_of pool) index text
+    pub named : NamesUtf8 constants index text
 
   pub text_at_found : (at : ℕ) (text : List ℕ) → text_at pool at ≡ Ok text → FoundText at text
   unfolding text_at
   text_at_found at text e =
       let a = bind_ok (u2_at pool.bytes at 0) _ text e in
       let n = u2_found pool.bytes at 0 a.0 fits a.1 in
-      record { index = a.0; few = n.1; stands = n.0; named = text_found pool a.0 text (at_ok at a.0 (text_of pool a.0) text a.2) }
+      record { index = a.0; few = n.1; stands = n.0; named = text_found pool constants holds a.0 text (at_ok at a.0 (text_of pool a.0) text a.2) }
 
-  pub text_at_only : (at index : ℕ) (text rest : List ℕ) (after : ℕ) → index < 2 ^ 16 → NamesUtf8 (table_of pool) index text → Stands pool.bytes at (u2 index ++ rest) after → (text_at pool at ≡ Ok text) × Stands pool.bytes (at + 2) rest after
+  pub text_at_only : (at index : ℕ) (text rest : List ℕ) (after : ℕ) → index < 2 ^ 16 → NamesUtf8 constants index text → Stands pool.bytes at (u2 index ++ rest) after → (text_at pool at ≡ Ok text) × Stands pool.bytes (at + 2) rest after
   unfolding text_at
   text_at_only at index text rest after few named s =
       let n = u2_only pool.bytes at 0 index rest after few s in
-      let t = text_only pool index text named in
+      let t = text_only pool constants holds index text named in
       (rw (n.0, t) refl, n.1)
 
   abbrev Passes : Attribute → Unit {0} → Type 0
-  Passes a u = IsPassed (table_of pool) a
+  Passes a u = IsPassed constants a
 
   attribute_found : (k at : ℕ) (x : Unit {0} × ℕ) → at ≤ length pool.bytes → attribute_at pool k at ≡ Ok x → FoundRow pool.bytes attribute Passes (attribute_at pool) at x.0 x.1
   unfolding attribute_at
@@ -75,7 +75,7 @@ module _ (pool : Entries) (fits : IsBytes pool.bytes) where
         meant = record { name = a.0; index = name.few; named = name.named; no_code = word.0; no_methods = word.1; fits = omega (arith, content.1, n.1) };
       })
 
-  attribute_only : (k at : ℕ) (a : Attribute) (rest : List ℕ) (after : ℕ) → IsPassed (table_of pool) a → Stands pool.bytes at (attribute a ++ rest) after → ReadRow pool.bytes attribute Passes (attribute_at pool) k at a
+  attribute_only : (k at : ℕ) (a : Attribute) (rest : List ℕ) (after : ℕ) → IsPassed constants a → Stands pool.bytes at (attribute a ++ rest) after → ReadRow pool.bytes attribute Passes (attribute_at pool) k at a
   unfolding attribute_at
   attribute_only k at a rest after is s =
       let here = opened (u2 a.name ++ u4 (length a.content)) a.content rest s in
@@ -89,7 +89,7 @@ module _ (pool : Entries) (fits : IsBytes pool.bytes) where
   pub record FoundAttributes (at after : ℕ) : Type 0 where
     pub table : List Attribute
     pub stands : Stands pool.bytes at (u2 (length table) ++ flat_map attribute table) after
-    pub passed : ArePassed (table_of pool) table
+    pub passed : ArePassed constants table
 
   pub attributes_found : (at after : ℕ) → attributes_at pool at ≡ Ok after → FoundAttributes at after
   unfolding attributes_at
@@ -101,7 +101,7 @@ module _ (pool : Entries) (fits : IsBytes pool.bytes) where
       subst (λ (y : ℕ). FoundAttributes at y) (ok_is b.0.1 after b.2) (record {
         table = r.table;
         stands = subst (λ (k : ℕ). Stands pool.bytes at (u2 k ++ flat_map attribute r.table) b.0.1) (sym r.many) (Stands-then n.0 r.stands);
-        passed = record { few = omega (arith, r.many, n.1); each = zip_left Passes (IsPassed (table_of pool)) (λ a x h. h) r.table b.0.0 r.meant };
+        passed = record { few = omega (arith, r.many, n.1); each = zip_left Passes (IsPassed constants) (λ a x h. h) r.table b.0.0 r.meant };
       })
 
   pub record ReadAttributes (at : ℕ) (rest : List ℕ) (after : ℕ) : Type 0 where
@@ -109,9 +109,9 @@ module _ (pool : Entries) (fits : IsBytes pool.bytes) where
     pub read_is : attributes_at pool at ≡ Ok end
     pub stands : Stands pool.bytes end rest after
 
-  pub attributes_only : (at : ℕ) (table : List Attribute) (rest : List ℕ) (after : ℕ) → ArePassed (table_of pool) table → Stands pool.bytes at (u2 (length table) ++ (flat_map attribute table ++ rest)) after → ReadAttributes at rest after
+  pub attributes_only : (at : ℕ) (table : List Attribute) (rest : List ℕ) (after : ℕ) → ArePassed constants table → Stands pool.bytes at (u2 (length table) ++ (flat_map attribute table ++ rest)) after → ReadAttributes at rest after
   unfolding attributes_at
   attributes_only at table rest after are s =
       let n = u2_only pool.bytes at 0 (length table) (flat_map attribute table ++ rest) after are.few s in
-      let r = rows_only pool.bytes attribute Passes (attribute_at pool) (IsPassed (table_of pool)) attribute_only 0 (at + 2) table rest after are.each n.1 in
+      let r = rows_only pool.bytes attribute Passes (attribute_at pool) (IsPassed constants) attribute_only 0 (at + 2) table rest after are.each n.1 in
       record { end = r.end; read_is = rw (n.0, r.read_is) refl; stands = r.stands }

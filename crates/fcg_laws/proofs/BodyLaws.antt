@@ -21,7 +21,7 @@ use Rattle.fcg_views.specs.Breaks.Pool.{Entries}
 use Rattle.fcg_views.specs.Breaks.Members.{attributes_at, methods_at}
 use Rattle.fcg_views.specs.Breaks.Class.{type_at, super_at, interfaces_at, flags_at, fields_at, members_at, body_at}
 use Rattle.fcg_laws.proofs.Places.{u2_found, u2_only, closed}
-use Rattle.fcg_laws.specs.Meaning.{table_of}
+use Rattle.fcg_laws.specs.Tables.{Holds}
 use Rattle.fcg_laws.proofs.AttributeLaws.{attributes_found, attributes_only}
 use Rattle.fcg_laws.proofs.MethodLaws.{methods_found, methods_only}
 use Rattle.fcg_laws.proofs.TypeLaws.{type_found, type_only, super_found, super_only, interfaces_found, interfaces_only}
@@ -70,7 +70,7 @@ pub record IsBody (cs : List Constant) (flags this super : ℕ) (interfaces : Li
   pub distinct : IsDistinct is_alike v.methods
   pub passed : ArePassed cs attributes
 
-module _ (pool : Entries) (fits : IsBytes pool.bytes) where
+module _ (pool : Entries) (fits : IsBytes pool.bytes) (constants : List Constant) (holds : Holds pool constants) where
   flags_found : (at flags : ℕ) → flags_at pool at ≡ Ok flags → Stands pool.bytes at (u2 flags) (at + 2) × (flags < 0x8000)
   unfolding flags_at
   flags_found at flags e =
@@ -104,9 +104,9 @@ module _ (pool : Entries) (fits : IsBytes pool.bytes) where
     attributes : List Attribute
     stands : Stands pool.bytes at (members_text methods attributes) (length pool.bytes)
     few : length methods < 2 ^ 16
-    methods_are : AllZip (IsMethodOf (table_of pool)) methods ms
+    methods_are : AllZip (IsMethodOf constants) methods ms
     distinct : IsDistinct is_alike ms
-    passed : ArePassed (table_of pool) attributes
+    passed : ArePassed constants attributes
 
   members_found : (at : ℕ) (ms : List Method) → members_at pool at ≡ Ok ms → FoundMembers at ms
   unfolding members_at
@@ -116,8 +116,8 @@ module _ (pool : Entries) (fits : IsBytes pool.bytes) where
       let c = bind_ok (attributes_at pool b.0.1) _ ms b.2 in
       let d = bind_ok (unless_broken (eqb (length pool.bytes) c.0) (fault c.0 0 Trailing)) _ ms c.2 in
       let fields = fields_found at a.0 a.1 in
-      let methods = methods_found pool fits a.0 b.0 b.1 in
-      let attributes = attributes_found pool fits b.0.1 c.0 c.1 in
+      let methods = methods_found pool fits constants holds a.0 b.0 b.1 in
+      let attributes = attributes_found pool fits constants holds b.0.1 c.0 c.1 in
       let end : length pool.bytes ≡ c.0 = eqb-true _ _ (kept_ok _ _ d.0 d.1) in
       let last = Stands-to (length pool.bytes) (sym end) attributes.stands in
       subst (λ (x : List Method). FoundMembers at x) (ok_is b.0.0 ms d.2) (record {
@@ -130,15 +130,15 @@ module _ (pool : Entries) (fits : IsBytes pool.bytes) where
         passed = attributes.passed;
       })
 
-  members_only : (at : ℕ) (methods : List MethodInfo) (attributes : List Attribute) (ms : List Method) → length methods < 2 ^ 16 → AllZip (IsMethodOf (table_of pool)) methods ms → IsDistinct is_alike ms → ArePassed (table_of pool) attributes
+  members_only : (at : ℕ) (methods : List MethodInfo) (attributes : List Attribute) (ms : List Method) → length methods < 2 ^ 16 → AllZip (IsMethodOf constants) methods ms → IsDistinct is_alike ms → ArePassed constants attributes
       → Stands pool.bytes at (members_text methods attributes) (length pool.bytes) → members_at pool at ≡ Ok ms
   unfolding members_at
   members_only at methods attributes ms few methods_are distinct passed s =
       let end : ℕ = length pool.bytes in
       let last : List ℕ = u2 (length attributes) ++ (flat_map attribute attributes ++ []) in
       let a = fields_only at (u2 (length methods) ++ (flat_map method_info methods ++ last)) end s in
-      let b = methods_only pool fits (at + 2) methods ms last end few methods_are distinct a.1 in
-      let c = attributes_only pool fits b.end attributes [] end passed b.stands in
+      let b = methods_only pool fits constants holds (at + 2) methods ms last end few methods_are distinct a.1 in
+      let c = attributes_only pool fits constants holds b.end attributes [] end passed b.stands in
       let ended = is_end pool.bytes c.end c.stands in
       rw (a.0, b.read_is, c.read_is, ended) refl
 
@@ -150,7 +150,7 @@ module _ (pool : Entries) (fits : IsBytes pool.bytes) where
     pub methods : List MethodInfo
     pub attributes : List Attribute
     pub stands : Stands pool.bytes at (body_text flags this super interfaces methods attributes) (length pool.bytes)
-    pub body : IsBody (table_of pool) flags this super interfaces methods attributes v
+    pub body : IsBody constants flags this super interfaces methods attributes v
 
   pub body_found : (at : ℕ) (v : View) → body_at pool at ≡ Ok v → FoundBody at v
   unfolding body_at
@@ -161,9 +161,9 @@ module _ (pool : Entries) (fits : IsBytes pool.bytes) where
       let d = bind_ok (interfaces_at pool (at + 6)) _ v c.2 in
       let f = bind_ok (members_at pool d.0.1) _ v d.2 in
       let flags = flags_found at a.0 a.1 in
-      let name = type_found pool fits (at + 2) b.0 b.1 in
-      let super = super_found pool fits (at + 4) c.0 c.1 in
-      let interfaces = interfaces_found pool fits (at + 6) d.0 d.1 in
+      let name = type_found pool fits constants holds (at + 2) b.0 b.1 in
+      let super = super_found pool fits constants holds (at + 4) c.0 c.1 in
+      let interfaces = interfaces_found pool fits constants holds (at + 6) d.0 d.1 in
       let members = members_found d.0.1 f.0 f.1 in
       let s1 = Stands-to (at + 4) (four at) name.stands in
       let s2 = Stands-to (at + 6) (six at) super.stands in
@@ -190,17 +190,17 @@ module _ (pool : Entries) (fits : IsBytes pool.bytes) where
         };
       })
 
-  pub body_only : (at flags this super : ℕ) (interfaces : List ℕ) (methods : List MethodInfo) (attributes : List Attribute) (v : View) → IsBody (table_of pool) flags this super interfaces methods attributes v
+  pub body_only : (at flags this super : ℕ) (interfaces : List ℕ) (methods : List MethodInfo) (attributes : List Attribute) (v : View) → IsBody constants flags this super interfaces methods attributes v
       → Stands pool.bytes at (body_text flags this super interfaces methods attributes) (length pool.bytes) → body_at pool at ≡ Ok v
   unfolding body_at
   body_only at flags this super interfaces methods attributes v is s =
       let end : ℕ = length pool.bytes in
       let members : List ℕ = members_text methods attributes in
       let a = flags_only at flags (u2 this ++ (u2 super ++ (u2 (length interfaces) ++ (flat_map u2 interfaces ++ members)))) end is.type s in
-      let b = type_only pool fits (at + 2) this v.name (u2 super ++ (u2 (length interfaces) ++ (flat_map u2 interfaces ++ members))) end is.name a.1 in
+      let b = type_only pool fits constants holds (at + 2) this v.name (u2 super ++ (u2 (length interfaces) ++ (flat_map u2 interfaces ++ members))) end is.name a.1 in
       let s4 = subst (λ (n : ℕ). Stands pool.bytes n (u2 super ++ (u2 (length interfaces) ++ (flat_map u2 interfaces ++ members))) end) (four at) b.1 in
-      let c = super_only pool fits (at + 4) super v.superclass (u2 (length interfaces) ++ (flat_map u2 interfaces ++ members)) end is.super_is s4 in
+      let c = super_only pool fits constants holds (at + 4) super v.superclass (u2 (length interfaces) ++ (flat_map u2 interfaces ++ members)) end is.super_is s4 in
       let s6 = subst (λ (n : ℕ). Stands pool.bytes n (u2 (length interfaces) ++ (flat_map u2 interfaces ++ members)) end) (six at) c.1 in
-      let d = interfaces_only pool fits (at + 6) interfaces v.interfaces members end is.few_interfaces is.interfaces_are s6 in
+      let d = interfaces_only pool fits constants holds (at + 6) interfaces v.interfaces members end is.few_interfaces is.interfaces_are s6 in
       let f = members_only d.end methods attributes v.methods is.few_methods is.methods_are is.distinct is.passed d.stands in
       rw (a.0, b.0, c.0, d.read_is, f) (ap (λ (x : View). Ok x) (made_is v flags is.flags_are is.fields))

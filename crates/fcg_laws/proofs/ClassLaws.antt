@@ -1,7 +1,8 @@
 -- The class file: what is read is spelled so, and what is spelled so is read. So it has one view, or one first fault.
-use Rattle.std.proofs.Common.{◌≡◌, ℕ, zero, suc, ◌+◌, ◌^◌, ◌≤◌, ◌<◌, true, eqb, leb, ◌&&◌, List, [], ◌∷◌, ◌++◌, length, Some, refl, sym, subst, ◌∙◌, arith}
+use Rattle.std.proofs.Common.{◌≡◌, ℕ, zero, suc, ◌+◌, ◌^◌, ◌≤◌, ◌<◌, true, eqb, leb, ◌&&◌, List, [], ◌∷◌, ◌++◌, length, Some, refl, sym, ap, subst, ◌∙◌, arith}
 use Rattle.std.specs.Prelude.{Result, Ok, Err, IfOk}
 use Rattle.std.specs.List.{flat_map}
+use Rattle.std.proofs.lemmas.List.{length-map}
 use Rattle.std.proofs.lemmas.Bool.{eqb-true, and_parts}
 use Rattle.std.proofs.lemmas.Bool.Decides.{nat_tests}
 use Rattle.fcg_grammar.specs.declared.error.ReadError.{ReadError}
@@ -10,18 +11,19 @@ use Rattle.fcg_grammar.specs.Spell.{IsBytes, u2, u4}
 use Rattle.fcg_grammar.proofs.LawLemmas.{bind_ok, kept_ok, err_is, ok_or_err}
 use Rattle.fcg_grammar.proofs.Standing.{Stands, Stands-then, ok_is, whole_is, is_whole}
 use Rattle.fcg_views.specs.declared.view.View.{View}
+use Rattle.fcg_views.specs.declared.fault.PoolFault.{PoolFault}
 use Rattle.fcg_views.specs.declared.fault.ClassFault.{ClassFault}
 use Rattle.fcg_views.specs.declared.fault.ClassRule.TheVariants.{Magic}
-use Rattle.fcg_views.specs.ClassFile.{Constant, Class, constant, ClassFile, spelling}
+use Rattle.fcg_views.specs.ClassFile.{Constant, Named, constant, slots, ClassFile, spelling}
 use Rattle.fcg_views.specs.Reads.{constant_at, IsViewOf, Reads, Verdict, IsRead, IsBroken}
-use Rattle.fcg_views.specs.Breaks.Fault.{fault}
+use Rattle.fcg_views.specs.Breaks.Fault.{fault, in_pool}
 use Rattle.fcg_views.specs.Breaks.Number.{u2_at, u4_at}
 use Rattle.fcg_views.specs.Breaks.Pool.{Entries, pool_at}
 use Rattle.fcg_views.specs.Breaks.Class.{header_kept, body_at, class_of}
 use Rattle.fcg_laws.proofs.Places.{u2_found, u2_only, u4_found, u4_only}
-use Rattle.fcg_laws.specs.Meaning.{table_of}
+use Rattle.fcg_laws.specs.Tables.{unplaced, Holds}
 use Rattle.fcg_laws.proofs.WordLaws.{methods_differ, methods_distinct}
-use Rattle.fcg_laws.proofs.NameLaws.{FoundPool, pool_found, pool_only}
+use Rattle.fcg_laws.proofs.TableLaws.{FoundPool, pool_found, pool_only}
 use Rattle.fcg_laws.proofs.BodyLaws.{body_text, IsBody, FoundBody, body_found, body_only}
 
 at_least : (m n : ℕ) → leb m n ≡ true → m ≤ n
@@ -59,17 +61,23 @@ header_only bytes minor major rest after few from to s =
     (rw (a.0, b.0, c.0, version) refl, c.1)
 
 -- no index names anything in an empty pool
-some_constant : (cs : List Constant) (i : ℕ) (c : Constant) → constant_at cs i ≡ Some c → 0 < length cs
-some_constant [] zero c e = absurd cc
+some_constant : (cs : List Constant) (i : ℕ) (c : Constant) → constant_at cs i ≡ Some c → 0 < length (slots cs)
+some_constant cs zero c e = absurd cc
 some_constant [] (suc i) c e = absurd cc
-some_constant (d ∷ cs) i c e = omega arith
+some_constant (d ∷ cs) (suc i) c e = omega arith
 
-assembled : (bytes : List ℕ) (pool : Entries) (fits : IsBytes pool.bytes) (after : ℕ) (v : View) → FoundHeader bytes → FoundPool bytes 8 pool after → FoundBody pool fits after v → Reads bytes v
+-- the pool's rules are among those of the class file
+in_ok : {A : Type 0} (r : Result A PoolFault) (x : A) → in_pool r ≡ Ok x → r ≡ Ok x
+in_ok (Ok y) x e = rw (ok_is y x e) refl
+in_ok (Err f) x e = absurd cc
+
+assembled : (bytes : List ℕ) (pool : Entries) (fits : IsBytes pool.bytes) (after : ℕ) (v : View) → FoundHeader bytes → (p : FoundPool bytes 8 pool after) → FoundBody pool fits p.constants p.holds after v → Reads bytes v
 assembled bytes pool fits after v header p found =
-    let table : List Constant = table_of pool in
+    let table : List Constant = p.constants in
     let body = found.body in
-    let some = some_constant table found.this (Class body.name.1.0) body.name.1.1 in
-    let count : p.count ≡ 1 + length table = omega (arith, p.many) in
+    let some = some_constant table found.this (Named 7 body.name.1.0) body.name.1.1 in
+    let long : length pool.slots ≡ length (slots table) = sym (length-map pool.slots _) ∙ ap length p.holds in
+    let count : p.count ≡ 1 + length (slots table) = omega (arith, p.many, long) in
     let rest = subst (λ (x : List ℕ). Stands x after (body_text found.flags found.this found.super found.interfaces found.methods found.attributes) (length x)) p.bytes_are found.stands in
     let pool_stands = subst (λ (n : ℕ). Stands bytes 8 (u2 n ++ flat_map constant table) after) count p.stands in
     record {
@@ -99,11 +107,11 @@ pub class_found : (bytes : List ℕ) (v : View) → IsBytes bytes → class_of b
 unfolding class_of
 class_found bytes v fits e =
     let a = bind_ok (header_kept bytes) _ v e in
-    let b = bind_ok (pool_at bytes 8) _ v a.2 in
+    let b = bind_ok (in_pool (pool_at bytes 8)) _ v a.2 in
     let header = header_found bytes fits a.0 a.1 in
-    let pool = pool_found bytes fits 8 b.0 b.1 in
+    let pool = pool_found bytes fits 8 b.0 (in_ok (pool_at bytes 8) b.0 b.1) in
     let fits1 = subst (λ (x : List ℕ). IsBytes x) (sym pool.bytes_are) fits in
-    assembled bytes b.0.0 fits1 b.0.1 v header pool (body_found b.0.0 fits1 b.0.1 v b.2)
+    assembled bytes b.0.0 fits1 b.0.1 v header pool (body_found b.0.0 fits1 pool.constants pool.holds b.0.1 v b.2)
 
 abbrev text_of_body : ClassFile → List ℕ
 text_of_body c = body_text c.flags c.this c.super c.interfaces c.methods c.attributes
@@ -127,12 +135,11 @@ body_of c v is = record {
 }
 
 -- the body, by the pool that was read
-body_again : (bytes : List ℕ) → IsBytes bytes → (c : ClassFile) (v : View) (pool : Entries) (end : ℕ) → pool.bytes ≡ bytes → table_of pool ≡ c.pool → IsViewOf c v → Stands bytes end (text_of_body c) (length bytes) → body_at pool end ≡ Ok v
-body_again bytes fits c v pool end bytes_are same is s =
+body_again : (bytes : List ℕ) → IsBytes bytes → (c : ClassFile) (v : View) (pool : Entries) (end : ℕ) → pool.bytes ≡ bytes → Holds pool c.pool → IsViewOf c v → Stands bytes end (text_of_body c) (length bytes) → body_at pool end ≡ Ok v
+body_again bytes fits c v pool end bytes_are holds is s =
     let fits1 = subst (λ (x : List ℕ). IsBytes x) (sym bytes_are) fits in
     let here = subst (λ (x : List ℕ). Stands x end (text_of_body c) (length x)) (sym bytes_are) s in
-    let body = subst (λ (t : List Constant). IsBodyOf t c v) (sym same) (body_of c v is) in
-    body_only pool fits1 end c.flags c.this c.super c.interfaces c.methods c.attributes v body here
+    body_only pool fits1 c.pool holds end c.flags c.this c.super c.interfaces c.methods c.attributes v (body_of c v is) here
 
 -- a class file is read, with its view
 pub class_only : (bytes : List ℕ) (v : View) → IsBytes bytes → Reads bytes v → class_of bytes ≡ Ok v
@@ -142,9 +149,9 @@ class_only bytes v fits r =
     let is = r.view in
     let text : List ℕ = text_of_body c in
     let s = is_whole bytes (spelling c) r.spelled in
-    let h = header_only bytes c.minor c.major (u2 (1 + length c.pool) ++ (flat_map constant c.pool ++ text)) (length bytes) is.minor is.from is.to s in
+    let h = header_only bytes c.minor c.major (u2 (1 + length (slots c.pool)) ++ (flat_map constant c.pool ++ text)) (length bytes) is.minor is.from is.to s in
     let p = pool_only bytes 8 c.pool text (length bytes) is.pool h.1 in
-    rw (h.0, p.read_is) (body_again bytes fits c v p.pool p.end p.bytes_are p.same is p.stands)
+    rw (h.0, p.read_is) (body_again bytes fits c v p.pool p.end p.bytes_are p.holds is p.stands)
 
 -- what a reader answers
 pub is_found : (bytes : List ℕ) (r : Result View (ReadError ClassFault)) → IsBytes bytes → Gives (λ v. v) r (class_of bytes) → IfOk r (λ v. Reads bytes v)

@@ -5,6 +5,8 @@ pub mod PoolPlaces
 pub mod PoolLaws
 pub mod SlotLaws
 pub mod NameLaws
+pub mod KeptLaws
+pub mod TableLaws
 pub mod Fresh
 pub mod WordLaws
 pub mod AttributeLaws

@@ -24,7 +24,7 @@ use Rattle.fcg_views.specs.Breaks.Pool.{Entries}
 use Rattle.fcg_views.specs.Breaks.Members.{text_at, attributes_at, Begun, declared_at, method_at, methods_at}
 use Rattle.fcg_views.proofs.DescLaws.{descriptor_found, descriptor_only}
 use Rattle.fcg_laws.proofs.Places.{u2_found, u2_only, closed, opened}
-use Rattle.fcg_laws.specs.Meaning.{table_of}
+use Rattle.fcg_laws.specs.Tables.{Holds}
 use Rattle.fcg_laws.proofs.AttributeLaws.{text_at_found, text_at_only, attributes_found, attributes_only}
 use Rattle.fcg_laws.proofs.Fresh.{IsFresh, AreFresh, distinct_found, distinct_only}
 
@@ -55,7 +55,7 @@ pub record MeansMethod (cs : List Constant) (s : Begun) (c : MethodInfo) (m : Me
   pub at : next.at ≡ s.at + length (method_info c)
   pub earlier : next.earlier ≡ s.earlier ++ m ∷ []
 
-module _ (pool : Entries) (fits : IsBytes pool.bytes) where
+module _ (pool : Entries) (fits : IsBytes pool.bytes) (constants : List Constant) (holds : Holds pool constants) where
   pub record FoundDeclared (at : ℕ) (m : Method) : Type 0 where
     pub flags : ℕ
     pub name : ℕ
@@ -64,10 +64,10 @@ module _ (pool : Entries) (fits : IsBytes pool.bytes) where
     pub flags_few : flags < 2 ^ 16
     pub flags_are : m.flags ≡ flags
     pub name_few : name < 2 ^ 16
-    pub name_is : NamesUtf8 (table_of pool) name m.name
+    pub name_is : NamesUtf8 constants name m.name
     pub filled : 0 < length m.name
     pub desc_few : desc < 2 ^ 16
-    pub desc_is : NamesUtf8 (table_of pool) desc m.desc
+    pub desc_is : NamesUtf8 constants desc m.desc
     pub typed : IsDescriptor m.desc
     pub sites : m.sites ≡ []
 
@@ -80,8 +80,8 @@ module _ (pool : Entries) (fits : IsBytes pool.bytes) where
       let d = bind_ok (text_at pool (at + 4)) _ m c.2 in
       let f = bind_ok (unless_broken (is_descriptor d.0) (fault (at + 4) 0 Descriptor)) _ m d.2 in
       let flags = u2_found pool.bytes at 0 a.0 fits a.1 in
-      let name = text_at_found pool fits (at + 2) b.0 b.1 in
-      let desc = text_at_found pool fits (at + 4) d.0 d.1 in
+      let name = text_at_found pool fits constants holds (at + 2) b.0 b.1 in
+      let desc = text_at_found pool fits constants holds (at + 4) d.0 d.1 in
       let s1 = Stands-to (at + 4) (four at) name.stands in
       let s2 = Stands-to (at + 6) (four_two at) desc.stands in
       subst (λ (x : Method). FoundDeclared at x) (ok_is (made b.0 d.0 a.0 []) m f.2) (record {
@@ -100,32 +100,32 @@ module _ (pool : Entries) (fits : IsBytes pool.bytes) where
         sites = refl;
       })
 
-  pub declared_only : (at : ℕ) (c : MethodInfo) (m : Method) (rest : List ℕ) (after : ℕ) → IsMethodOf (table_of pool) c m → Stands pool.bytes at (u2 c.flags ++ (u2 c.name ++ (u2 c.desc ++ rest))) after
+  pub declared_only : (at : ℕ) (c : MethodInfo) (m : Method) (rest : List ℕ) (after : ℕ) → IsMethodOf constants c m → Stands pool.bytes at (u2 c.flags ++ (u2 c.name ++ (u2 c.desc ++ rest))) after
       → (declared_at pool at ≡ Ok m) × Stands pool.bytes (at + 6) rest after
   unfolding declared_at
   declared_only at c m rest after is s =
       let a = u2_only pool.bytes at 0 c.flags (u2 c.name ++ (u2 c.desc ++ rest)) after is.flags s in
-      let b = text_at_only pool fits (at + 2) c.name m.name (u2 c.desc ++ rest) after is.name_index is.name a.1 in
+      let b = text_at_only pool fits constants holds (at + 2) c.name m.name (u2 c.desc ++ rest) after is.name_index is.name a.1 in
       let filled : ltb 0 (length m.name) ≡ true = lt-ltb _ _ is.filled in
       let s4 = subst (λ (n : ℕ). Stands pool.bytes n (u2 c.desc ++ rest) after) (four at) b.1 in
-      let d = text_at_only pool fits (at + 4) c.desc m.desc rest after is.desc_index is.desc s4 in
+      let d = text_at_only pool fits constants holds (at + 4) c.desc m.desc rest after is.desc_index is.desc s4 in
       let typed = descriptor_only m.desc is.typed in
       (rw (a.0, b.0, filled, d.0, typed) (ap (λ (x : Method). Ok x) (made_is m c.flags is.flags_are is.sites)), subst (λ (n : ℕ). Stands pool.bytes n rest after) (four_two at) d.1)
 
   abbrev place : Begun → ℕ
   place s = s.at
 
-  pub method_found : (k : ℕ) (s : Begun) (x : Method × Begun) → s.at ≤ length pool.bytes → method_at pool k s ≡ Ok x → FoundRow pool.bytes place method_info (MeansMethod (table_of pool)) (method_at pool) s x.0 x.1
+  pub method_found : (k : ℕ) (s : Begun) (x : Method × Begun) → s.at ≤ length pool.bytes → method_at pool k s ≡ Ok x → FoundRow pool.bytes place method_info (MeansMethod constants) (method_at pool) s x.0 x.1
   unfolding method_at
   method_found k s x le e =
       let a = bind_ok (declared_at pool s.at) _ x e in
       let b = bind_ok (unless_broken (not (list_any (λ earlier. is_alike earlier a.0) s.earlier)) (fault s.at 0 DoubleMethod)) _ x a.2 in
       let c = bind_ok (attributes_at pool (s.at + 6)) _ x b.2 in
       let d = declared_found s.at a.0 a.1 in
-      let attributes = attributes_found pool fits (s.at + 6) c.0 c.1 in
+      let attributes = attributes_found pool fits constants holds (s.at + 6) c.0 c.1 in
       let info : MethodInfo = record { flags = d.flags; name = d.name; desc = d.desc; attributes = attributes.table } in
       let whole = closed (u2 d.flags ++ (u2 d.name ++ (u2 d.desc ++ u2 (length attributes.table)))) (flat_map attribute attributes.table) (Stands-then d.stands attributes.stands) in
-      subst (λ (y : Method × Begun). FoundRow pool.bytes place method_info (MeansMethod (table_of pool)) (method_at pool) s y.0 y.1) (ok_is _ x c.2) (record {
+      subst (λ (y : Method × Begun). FoundRow pool.bytes place method_info (MeansMethod constants) (method_at pool) s y.0 y.1) (ok_is _ x c.2) (record {
         row = info;
         stands = whole;
         meant = record {
@@ -147,23 +147,23 @@ module _ (pool : Entries) (fits : IsBytes pool.bytes) where
         };
       })
 
-  method_only : (k : ℕ) (s : Begun) (c : MethodInfo) (m : Method) (next : Begun) (rest : List ℕ) (after : ℕ) → MeansMethod (table_of pool) s c m next → Stands pool.bytes s.at (method_info c ++ rest) after
+  method_only : (k : ℕ) (s : Begun) (c : MethodInfo) (m : Method) (next : Begun) (rest : List ℕ) (after : ℕ) → MeansMethod constants s c m next → Stands pool.bytes s.at (method_info c ++ rest) after
       → (method_at pool k s ≡ Ok (m, next)) × (next.at ≡ s.at + length (method_info c))
   unfolding method_at
   method_only k s c m next rest after is t =
       let table : List ℕ = flat_map attribute c.attributes in
       let here = opened (u2 c.flags ++ (u2 c.name ++ (u2 c.desc ++ u2 (length c.attributes)))) table rest t in
       let d = declared_only s.at c m (u2 (length c.attributes) ++ (table ++ rest)) after is.method here in
-      let a = attributes_only pool fits (s.at + 6) c.attributes rest after is.method.attributes d.1 in
+      let a = attributes_only pool fits constants holds (s.at + 6) c.attributes rest after is.method.attributes d.1 in
       let end : a.end ≡ next.at = row_end pool.bytes s.at a.end after (method_info c) rest t a.stands ∙ sym is.at in
       (rw (d.0, is.fresh, a.read_is, end, ← is.earlier) refl, is.at)
 
 -- ---- along the rows
-module _ (pool : Entries) (fits : IsBytes pool.bytes) where
+module _ (pool : Entries) (fits : IsBytes pool.bytes) (constants : List Constant) (holds : Holds pool constants) where
   abbrev pub Follow : Begun → List MethodInfo → List Method → Begun → Type 0
-  Follow s cs ms end = Linked pool.bytes (λ (b : Begun). b.at) method_info (MeansMethod (table_of pool)) (method_at pool) s cs ms end
+  Follow s cs ms end = Linked pool.bytes (λ (b : Begun). b.at) method_info (MeansMethod constants) (method_at pool) s cs ms end
 
-  pub follow_found : (s : Begun) (cs : List MethodInfo) (ms : List Method) (end : Begun) → Follow s cs ms end → AllZip (IsMethodOf (table_of pool)) cs ms × AreFresh is_alike s.earlier ms
+  pub follow_found : (s : Begun) (cs : List MethodInfo) (ms : List Method) (end : Begun) → Follow s cs ms end → AllZip (IsMethodOf constants) cs ms × AreFresh is_alike s.earlier ms
   follow_found s [] [] end l = (tt, tt)
   follow_found s [] (m ∷ ms) end l = absurd l
   follow_found s (c ∷ cs) [] end l = absurd l
@@ -171,7 +171,7 @@ module _ (pool : Entries) (fits : IsBytes pool.bytes) where
       let below = follow_found l.0 cs ms end l.2 in
       ((l.1.method, below.0), (l.1.fresh, subst (λ (e : List Method). AreFresh is_alike e ms) l.1.earlier below.1))
 
-  follow_only : (s : Begun) (cs : List MethodInfo) (ms : List Method) → AllZip (IsMethodOf (table_of pool)) cs ms → AreFresh is_alike s.earlier ms → (end : Begun) × Follow s cs ms end
+  follow_only : (s : Begun) (cs : List MethodInfo) (ms : List Method) → AllZip (IsMethodOf constants) cs ms → AreFresh is_alike s.earlier ms → (end : Begun) × Follow s cs ms end
   follow_only s [] [] z f = (s, refl)
   follow_only s [] (m ∷ ms) z f = absurd z
   follow_only s (c ∷ cs) [] z f = absurd z
@@ -184,7 +184,7 @@ module _ (pool : Entries) (fits : IsBytes pool.bytes) where
     pub table : List MethodInfo
     pub stands : Stands pool.bytes at (u2 (length table) ++ flat_map method_info table) after
     pub few : length table < 2 ^ 16
-    pub methods : AllZip (IsMethodOf (table_of pool)) table ms
+    pub methods : AllZip (IsMethodOf constants) table ms
     pub distinct : IsDistinct is_alike ms
 
   pub methods_found : (at : ℕ) (x : List Method × ℕ) → methods_at pool at ≡ Ok x → FoundMethods at x.0 x.1
@@ -194,7 +194,7 @@ module _ (pool : Entries) (fits : IsBytes pool.bytes) where
       let a = bind_ok (u2_at pool.bytes at 0) _ x e in
       let b = bind_ok (rows (method_at pool) a.0 0 begun) _ x a.2 in
       let n = u2_found pool.bytes at 0 a.0 fits a.1 in
-      let r = rows_found pool.bytes (λ (b : Begun). b.at) method_info (MeansMethod (table_of pool)) (method_at pool) (method_found pool fits) a.0 0 begun b.0 n.0.within b.1 in
+      let r = rows_found pool.bytes (λ (b : Begun). b.at) method_info (MeansMethod constants) (method_at pool) (method_found pool fits constants holds) a.0 0 begun b.0 n.0.within b.1 in
       let along = follow_found begun r.table b.0.0 b.0.1 r.meant in
       subst (λ (y : List Method × ℕ). FoundMethods at y.0 y.1) (ok_is _ x b.2) (record {
         table = r.table;
@@ -209,12 +209,12 @@ module _ (pool : Entries) (fits : IsBytes pool.bytes) where
     pub read_is : methods_at pool at ≡ Ok (ms, end)
     pub stands : Stands pool.bytes end rest after
 
-  pub methods_only : (at : ℕ) (table : List MethodInfo) (ms : List Method) (rest : List ℕ) (after : ℕ) → length table < 2 ^ 16 → AllZip (IsMethodOf (table_of pool)) table ms → IsDistinct is_alike ms
+  pub methods_only : (at : ℕ) (table : List MethodInfo) (ms : List Method) (rest : List ℕ) (after : ℕ) → length table < 2 ^ 16 → AllZip (IsMethodOf constants) table ms → IsDistinct is_alike ms
       → Stands pool.bytes at (u2 (length table) ++ (flat_map method_info table ++ rest)) after → ReadMethods at ms rest after
   unfolding methods_at
   methods_only at table ms rest after few methods distinct s =
       let begun : Begun = record { at = at + 2; earlier = [] } in
       let n = u2_only pool.bytes at 0 (length table) (flat_map method_info table ++ rest) after few s in
       let along = follow_only begun table ms methods (distinct_only is_alike ms distinct) in
-      let r = rows_only pool.bytes (λ (b : Begun). b.at) method_info (MeansMethod (table_of pool)) (method_at pool) (method_only pool fits) 0 begun table ms along.0 rest after along.1 n.1 in
+      let r = rows_only pool.bytes (λ (b : Begun). b.at) method_info (MeansMethod constants) (method_at pool) (method_only pool fits constants holds) 0 begun table ms along.0 rest after along.1 n.1 in
       record { end = along.0.at; read_is = rw (n.0, r.0) refl; stands = r.1 }

@@ -122,26 +122,34 @@ module _ (pool : Entries) (constants : List Constant) (holds : Holds pool consta
   unfolding pair_of
   pair_only tags index pair is = rw (constant_only index (Pair pair.tag pair.first pair.second) is.0, is.1) refl
 
+  -- what a reference names besides its class
+  member_found : (tag index : ℕ) (owner : List ℕ) (r : Reference)
+      → (pair_of pool (12 ∷ []) index >>= λ m. text_of pool m.first >>= λ name. text_of pool m.second >>= λ desc. Ok (record { tag = tag; owner = owner; name = name; desc = desc })) ≡ Ok r
+      → (r.tag ≡ tag) × (r.owner ≡ owner) × NamesMember constants index r.name r.desc
+  member_found tag index owner r e =
+      let a = bind_ok (pair_of pool (12 ∷ []) index) _ r e in
+      let b = bind_ok (text_of pool a.0.first) _ r a.2 in
+      let c = bind_ok (text_of pool a.0.second) _ r b.2 in
+      let m = pair_found (12 ∷ []) index a.0 a.1 in
+      let same : constant_at constants index ≡ Some (Pair 12 a.0.first a.0.second) = m.0 ∙ ap (λ (t : ℕ). Some (Pair t a.0.first a.0.second)) (only_twelve a.0.tag m.1) in
+      let made : Reference = record { tag = tag; owner = owner; name = b.0; desc = c.0 } in
+      subst (λ (x : Reference). (x.tag ≡ tag) × (x.owner ≡ owner) × NamesMember constants index x.name x.desc) (ok_is made r c.2) (refl, refl, (a.0.first, a.0.second, same, text_found a.0.first b.0 b.1, text_found a.0.second c.0 c.1))
+
   pub reference_found : (index : ℕ) (r : Reference) → reference_of pool index ≡ Ok r → NamesReference constants index r
   unfolding reference_of
   reference_found index r e =
       let a = bind_ok (pair_of pool (9 ∷ 10 ∷ 11 ∷ []) index) _ r e in
       let b = bind_ok (name_of pool a.0.first) _ r a.2 in
       let c = bind_ok (text_of pool b.0) _ r b.2 in
-      let d = bind_ok (pair_of pool (12 ∷ []) a.0.second) _ r c.2 in
-      let f = bind_ok (text_of pool d.0.first) _ r d.2 in
-      let g = bind_ok (text_of pool d.0.second) _ r f.2 in
       let pair = pair_found (9 ∷ 10 ∷ 11 ∷ []) index a.0 a.1 in
-      let member = pair_found (12 ∷ []) a.0.second d.0 d.1 in
-      let twelve = only_twelve d.0.tag member.1 in
-      let made : Reference = record { tag = a.0.tag; owner = c.0; name = f.0; desc = g.0 } in
-      subst (NamesReference constants index) (ok_is made r g.2) (
+      let m = member_found a.0.tag a.0.second c.0 r c.2 in
+      (
         a.0.first,
         a.0.second,
-        pair.0,
-        pair.1,
-        (b.0, name_found a.0.first b.0 b.1, text_found b.0 c.0 c.1),
-        (d.0.first, d.0.second, member.0 ∙ ap (λ (t : ℕ). Some (Pair t d.0.first d.0.second)) twelve, text_found d.0.first f.0 f.1, text_found d.0.second g.0 g.1)
+        pair.0 ∙ ap (λ (t : ℕ). Some (Pair t a.0.first a.0.second)) (sym m.0),
+        ap (is_one_of (9 ∷ 10 ∷ 11 ∷ [])) m.0 ∙ pair.1,
+        (b.0, name_found a.0.first b.0 b.1, subst (NamesUtf8 constants b.0) (sym m.1) (text_found b.0 c.0 c.1)),
+        m.2
       )
 
   pub reference_only : (index : ℕ) (r : Reference) → NamesReference constants index r → reference_of pool index ≡ Ok r

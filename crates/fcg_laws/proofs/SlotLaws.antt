@@ -34,6 +34,10 @@ wide_room pool k p u e wide =
     let b = bind_ok (unless_broken (has_room pool k p.constant) BadIndex) _ u a in
     ltb-true _ _ (room_by (is_wide p.constant) (ltb k (length pool.slots)) (kept_ok _ _ b.0 b.1) wide)
 
+-- a slot, and those after it
+each_more : (pool : Entries) (k : ℕ) (x : Option Placed) (xs : List (Option Placed)) → each (slot_kept pool) k (x ∷ xs) ≡ Ok tt → (u : Unit {0}) × (slot_kept pool k x ≡ Ok u) × (each (slot_kept pool) (k + 1) xs ≡ Ok tt)
+each_more pool k x xs e = bind_ok (slot_kept pool k x) _ tt e
+
 is_false : (b : Bool) → (b ≡ true → ⊥) → b ≡ false
 is_false true h = absurd (h refl)
 is_false false h = refl
@@ -70,7 +74,7 @@ module _ (bytes : List ℕ) where
         many = ap suc others.many;
         fit = others.fit;
         room = λ pool long first kept. (
-          let c = bind_ok (slot_kept pool k None) _ tt kept in
+          let c = each_more pool k None b.0.0 kept in
           others.room pool (omega arith) (λ is. absurd cc) c.2
           );
       })
@@ -91,7 +95,7 @@ module _ (bytes : List ℕ) where
         many = ap suc others.many;
         fit = (first.fits, others.fit);
         room = λ pool long none kept. (
-          let d = bind_ok (slot_kept pool k (Some here)) _ tt kept in
+          let d = each_more pool k (Some here) b.0.0 kept in
           others.room pool (omega arith) (λ is. (let lt = wide_room pool k here d.0 d.1 is in omega arith)) d.2
           );
       })

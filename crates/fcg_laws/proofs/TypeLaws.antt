@@ -10,14 +10,14 @@ use Rattle.fcg_grammar.proofs.LawLemmas.{bind_ok, chosen, kept_ok}
 use Rattle.fcg_grammar.proofs.Standing.{Stands, Stands-then, ok_is}
 use Rattle.fcg_grammar.proofs.RowLaws.{FoundRow, ReadRow, rows_found, rows_only}
 use Rattle.fcg_views.specs.declared.fault.ClassRule.TheVariants.{EmptyName}
-use Rattle.fcg_views.specs.ClassFile.{Constant, Utf8, Class}
+use Rattle.fcg_views.specs.ClassFile.{Constant, Utf8, Named}
 use Rattle.fcg_views.specs.Reads.{NamesUtf8, NamesType, NamesSuper}
 use Rattle.fcg_views.specs.Breaks.Fault.{fault, at_place}
 use Rattle.fcg_views.specs.Breaks.Number.{u2_at}
 use Rattle.fcg_views.specs.Breaks.Pool.{Entries, name_of, text_of}
 use Rattle.fcg_views.specs.Breaks.Class.{type_at, super_at, interface_at, interfaces_at}
 use Rattle.fcg_laws.proofs.Places.{u2_found, u2_only}
-use Rattle.fcg_laws.specs.Meaning.{table_of}
+use Rattle.fcg_laws.specs.Tables.{Holds}
 use Rattle.fcg_laws.proofs.NameLaws.{class_name_found, class_name_only, at_ok}
 
 above_zero : (a b : ℕ) → a ≡ b → eqb a 0 ≡ false → 0 < b
@@ -28,7 +28,7 @@ abbrev some_utf8 : List ℕ → Option Constant
 some_utf8 x = Some (Utf8 x)
 
 abbrev some_class : ℕ → Option Constant
-some_class x = Some (Class x)
+some_class x = Some (Named 7 x)
 
 utf8_one : (cs : List Constant) (i : ℕ) (x y : List ℕ) → NamesUtf8 cs i x → NamesUtf8 cs i y → x ≡ y
 utf8_one cs i x y p q = let same : some_utf8 x ≡ some_utf8 y = sym p ∙ q in cc
@@ -56,12 +56,12 @@ each_named cs [] (x ∷ xs) p = absurd p
 each_named cs (i ∷ is) [] p = absurd p
 each_named cs (i ∷ is) (x ∷ xs) p = ((x, p.0), each_named cs is xs p.1)
 
-module _ (pool : Entries) (fits : IsBytes pool.bytes) where
+module _ (pool : Entries) (fits : IsBytes pool.bytes) (constants : List Constant) (holds : Holds pool constants) where
   pub record FoundType (at : ℕ) (name : List ℕ) : Type 0 where
     pub index : ℕ
     pub read_is : u2_at pool.bytes at 0 ≡ Ok index
     pub stands : Stands pool.bytes at (u2 index) (at + 2)
-    pub named : NamesType (table_of pool) index name
+    pub named : NamesType constants index name
 
   pub type_found : (at : ℕ) (name : List ℕ) → type_at pool at ≡ Ok name → FoundType at name
   unfolding type_at
@@ -71,21 +71,21 @@ module _ (pool : Entries) (fits : IsBytes pool.bytes) where
       let c = bind_ok (unless_broken (ltb 0 (length b.0)) (fault at 0 EmptyName)) _ name b.2 in
       let n = u2_found pool.bytes at 0 a.0 fits a.1 in
       let filled : 0 < length b.0 = ltb-true _ _ (kept_ok _ _ c.0 c.1) in
-      let named = class_name_found pool a.0 b.0 (at_ok at a.0 (name_of pool a.0 >>= text_of pool) b.0 b.1) in
+      let named = class_name_found pool constants holds a.0 b.0 (at_ok at a.0 (name_of pool a.0 >>= text_of pool) b.0 b.1) in
       subst (λ (x : List ℕ). FoundType at x) (ok_is b.0 name c.2) (record { index = a.0; read_is = a.1; stands = n.0; named = (n.1, named, filled) })
 
-  pub type_only : (at index : ℕ) (name rest : List ℕ) (after : ℕ) → NamesType (table_of pool) index name → Stands pool.bytes at (u2 index ++ rest) after → (type_at pool at ≡ Ok name) × Stands pool.bytes (at + 2) rest after
+  pub type_only : (at index : ℕ) (name rest : List ℕ) (after : ℕ) → NamesType constants index name → Stands pool.bytes at (u2 index ++ rest) after → (type_at pool at ≡ Ok name) × Stands pool.bytes (at + 2) rest after
   unfolding type_at
   type_only at index name rest after is s =
       let n = u2_only pool.bytes at 0 index rest after is.0 s in
-      let named = class_name_only pool index name is.1 in
+      let named = class_name_only pool constants holds index name is.1 in
       let filled : ltb 0 (length name) ≡ true = lt-ltb _ _ is.2 in
       (rw (n.0, named, filled) refl, n.1)
 
   pub record FoundSuper (at : ℕ) (name : Option (List ℕ)) : Type 0 where
     pub index : ℕ
     pub stands : Stands pool.bytes at (u2 index) (at + 2)
-    pub named : NamesSuper (table_of pool) index name
+    pub named : NamesSuper constants index name
 
   pub super_found : (at : ℕ) (name : Option (List ℕ)) → super_at pool at ≡ Ok name → FoundSuper at name
   unfolding super_at
@@ -103,7 +103,7 @@ module _ (pool : Entries) (fits : IsBytes pool.bytes) where
             )
       ]
 
-  pub super_only : (at index : ℕ) (name : Option (List ℕ)) (rest : List ℕ) (after : ℕ) → NamesSuper (table_of pool) index name → Stands pool.bytes at (u2 index ++ rest) after → (super_at pool at ≡ Ok name) × Stands pool.bytes (at + 2) rest after
+  pub super_only : (at index : ℕ) (name : Option (List ℕ)) (rest : List ℕ) (after : ℕ) → NamesSuper constants index name → Stands pool.bytes at (u2 index ++ rest) after → (super_at pool at ≡ Ok name) × Stands pool.bytes (at + 2) rest after
   unfolding super_at
   super_only at index None rest after is s =
       let few : index < 2 ^ 16 = omega arith in
@@ -116,7 +116,7 @@ module _ (pool : Entries) (fits : IsBytes pool.bytes) where
       (rw (n.0, some, read.0) refl, n.1)
 
   abbrev Names : ℕ → List ℕ → Type 0
-  Names index name = NamesType (table_of pool) index name
+  Names index name = NamesType constants index name
 
   interface_found : (k at : ℕ) (x : List ℕ × ℕ) → at ≤ length pool.bytes → interface_at pool k at ≡ Ok x → FoundRow pool.bytes u2 Names (interface_at pool) at x.0 x.1
   unfolding interface_at
@@ -136,7 +136,7 @@ module _ (pool : Entries) (fits : IsBytes pool.bytes) where
     pub table : List ℕ
     pub stands : Stands pool.bytes at (u2 (length table) ++ flat_map u2 table) after
     pub few : length table < 2 ^ 16
-    pub named : AllZip (NamesType (table_of pool)) table names
+    pub named : AllZip (NamesType constants) table names
 
   pub interfaces_found : (at : ℕ) (x : List (List ℕ) × ℕ) → interfaces_at pool at ≡ Ok x → FoundInterfaces at x.0 x.1
   unfolding interfaces_at
@@ -156,11 +156,11 @@ module _ (pool : Entries) (fits : IsBytes pool.bytes) where
     pub read_is : interfaces_at pool at ≡ Ok (names, end)
     pub stands : Stands pool.bytes end rest after
 
-  pub interfaces_only : (at : ℕ) (table : List ℕ) (names : List (List ℕ)) (rest : List ℕ) (after : ℕ) → length table < 2 ^ 16 → AllZip (NamesType (table_of pool)) table names → Stands pool.bytes at (u2 (length table) ++ (flat_map u2 table ++ rest)) after
+  pub interfaces_only : (at : ℕ) (table : List ℕ) (names : List (List ℕ)) (rest : List ℕ) (after : ℕ) → length table < 2 ^ 16 → AllZip (NamesType constants) table names → Stands pool.bytes at (u2 (length table) ++ (flat_map u2 table ++ rest)) after
       → ReadInterfaces at names rest after
   unfolding interfaces_at
   interfaces_only at table names rest after few named s =
       let n = u2_only pool.bytes at 0 (length table) (flat_map u2 table ++ rest) after few s in
-      let r = rows_only pool.bytes u2 Names (interface_at pool) (λ index. (name : List ℕ) × Names index name) interface_only 0 (at + 2) table rest after (each_named (table_of pool) table names named) n.1 in
-      let same : r.values ≡ names = types_one (table_of pool) table r.values names r.meant named in
+      let r = rows_only pool.bytes u2 Names (interface_at pool) (λ index. (name : List ℕ) × Names index name) interface_only 0 (at + 2) table rest after (each_named constants table names named) n.1 in
+      let same : r.values ≡ names = types_one constants table r.values names r.meant named in
       record { end = r.end; read_is = rw (n.0, r.read_is, same) refl; stands = r.stands }

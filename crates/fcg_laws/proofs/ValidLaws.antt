@@ -7,16 +7,11 @@ use Rattle.fcg_views.specs.declared.view.View.{View}
 use Rattle.fcg_views.specs.declared.view.Field.{Field}
 use Rattle.fcg_views.specs.declared.view.Method.{Method}
 use Rattle.fcg_views.specs.declared.view.Site.{Site}
-use Rattle.fcg_views.specs.ClassFile.{Constant, Utf8, MethodInfo}
+use Rattle.fcg_views.specs.ClassFile.{Constant, Utf8, slots, MethodInfo}
 use Rattle.fcg_views.specs.Reads.{NamesUtf8, NamesType, NamesSuper, Fits, IsMethodOf, Reads}
+use Rattle.fcg_laws.proofs.KeptLaws.{at_slot, all_slots}
 use Rattle.fcg_laws.proofs.WordLaws.{methods_distinct}
 use Rattle.fcg_views.specs.Valid.{IsShort, IsTable, IsShortOrNone, HasShortNames, IsValidField, IsValidMethod, site_count, IsValid}
-
-fits_at : (cs : List Constant) (i : ℕ) (c : Constant) → AllByRecursion Fits cs → slice_get cs i ≡ Some c → Fits c
-fits_at [] zero c fit e = absurd cc
-fits_at [] (suc i) c fit e = absurd cc
-fits_at (d ∷ cs) zero c fit e = let same : d ≡ c = cc in subst Fits same fit.0
-fits_at (d ∷ cs) (suc i) c fit e = fits_at cs i c fit.1 e
 
 zip_many : {C X : Type 0} (R : C → X → Type 0) (cs : List C) (xs : List X) → AllZip R cs xs → length xs ≡ length cs
 zip_many R [] [] z = refl
@@ -52,7 +47,7 @@ few_sites ms none = let n = no_sites ms none in omega arith
 module _ (cs : List Constant) (fit : AllByRecursion Fits cs) where
   short : (i : ℕ) (text : List ℕ) → NamesUtf8 cs i text → IsShort text
   short zero text is = absurd cc
-  short (suc i) text is = let fits = fits_at cs i (Utf8 text) fit is in let few = fits.0 in omega arith
+  short (suc i) text is = let fits = at_slot Fits (slots cs) i (Utf8 text) (all_slots Fits cs fit) is in let few = fits.0 in omega arith
 
   short_type : (i : ℕ) (name : List ℕ) → NamesType cs i name → IsShort name
   short_type i name is = short is.1.0 name is.1.2

@@ -1,8 +1,9 @@
 -- What an index names, in the pool that is read and in the file's.
-use Rattle.std.proofs.Common.{◌≡◌, ℕ, zero, suc, Bool, true, false, eqb, List, [], ◌∷◌, Option, Some, None, refl, sym, ap, subst, ◌∙◌}
+use Rattle.std.proofs.Common.{◌≡◌, ℕ, zero, suc, Bool, true, false, ◌||◌, eqb, List, [], ◌∷◌, Option, Some, None, refl, sym, ap, subst, ◌∙◌, arith}
 use Rattle.std.specs.Prelude.{Result, Ok, Err, option_map}
 use Rattle.std.specs.List.{slice_get}
 use Rattle.std.proofs.lemmas.Bool.{eqb-true}
+use Rattle.std.proofs.lemmas.Bool.Decides.{nat_tests}
 use Rattle.std.proofs.lemmas.Option.{slice_get-map}
 use Rattle.fcg_grammar.specs.Reading.{◌>>=◌, unless_broken}
 use Rattle.fcg_grammar.proofs.LawLemmas.{bind_ok, kept_ok}
@@ -12,9 +13,9 @@ use Rattle.fcg_views.specs.declared.fault.PoolRule.TheVariants.{WrongKind}
 use Rattle.fcg_views.specs.ClassFile.{is_one_of, Constant, Utf8, Plain, Named, Pair, Handle, slots}
 use Rattle.fcg_views.specs.Reads.{joined, constant_at, NamesUtf8, NamesClass}
 use Rattle.fcg_views.specs.Breaks.Fault.{at_place}
-use Rattle.fcg_views.specs.Breaks.Pool.{Placed, Entries, in_slot, constant_of, text_in, text_of, name_in, name_of, Indexes, pair_in, pair_of, Reference, reference_of}
+use Rattle.fcg_views.specs.Breaks.Pool.{Placed, Entries, in_slot, constant_of, text_in, text_of, name_in, name_of, Indexes, pair_in, pair_of, Reference, reference_of, handle_in, handle_of, dynamic_of}
 use Rattle.fcg_laws.specs.Tables.{unplaced, Holds}
-use Rattle.fcg_laws.specs.References.{NamesPair, NamesMember, NamesReference}
+use Rattle.fcg_laws.specs.References.{NamesPair, NamesMember, NamesReference, NamesHandle, NamesDynamic}
 
 pub at_ok : {A : Type 0} (at index : ℕ) (r : Result A PoolRule) (x : A) → at_place at index r ≡ Ok x → r ≡ Ok x
 at_ok at index (Ok y) x e = let same : y ≡ x = cc in ap (λ (z : _). Ok z) same
@@ -62,12 +63,22 @@ pair_by tags (Pair tag i j) p e =
     (ap (λ (x : Indexes). Pair x.tag x.first x.second) same, ap (λ (x : Indexes). is_one_of tags x.tag) (sym same) ∙ kept_ok _ _ a.0 a.1)
 pair_by tags (Handle kind i) p e = absurd cc
 
-only_twelve : (tag : ℕ) → is_one_of (12 ∷ []) tag ≡ true → tag ≡ 12
-only_twelve tag e = by_test (eqb 12 tag) refl e
-  where
-    by_test : (b : Bool) → eqb 12 tag ≡ b → is_one_of (12 ∷ []) tag ≡ true → tag ≡ 12
-    by_test true is e = sym (eqb-true _ _ is)
-    by_test false is e = (let bad = rw is at e in absurd cc)
+handle_by : (c : Constant) (x : ℕ × ℕ) → handle_in c ≡ Ok x → c ≡ Handle x.0 x.1
+handle_by (Utf8 text) x e = absurd cc
+handle_by (Plain tag bytes) x e = absurd cc
+handle_by (Named tag i) x e = absurd cc
+handle_by (Pair tag i j) x e = absurd cc
+handle_by (Handle kind i) x e = ap (λ (y : ℕ × ℕ). Handle y.0 y.1) (ok_is (kind, i) x e)
+
+by_test : (b : Bool) → (b || false) ≡ true → b ≡ true
+by_test true e = refl
+by_test false e = absurd cc
+
+only_one : (one tag : ℕ) → is_one_of (one ∷ []) tag ≡ true → tag ≡ one
+only_one one tag e = sym (eqb-true _ _ (by_test (eqb one tag) e))
+
+is_itself : (tag : ℕ) → is_one_of (tag ∷ []) tag ≡ true
+is_itself tag = let same : eqb tag tag ≡ true = grind (arith, nat_tests) in rw same refl
 
 module _ (pool : Entries) (constants : List Constant) (holds : Holds pool constants) where
   pub constant_found : (index : ℕ) (c : Constant) → constant_of pool index ≡ Ok c → constant_at constants index ≡ Some c
@@ -111,16 +122,25 @@ module _ (pool : Entries) (constants : List Constant) (holds : Holds pool consta
   pub class_name_only : (index : ℕ) (name : List ℕ) → NamesClass constants index name → (name_of pool index >>= text_of pool) ≡ Ok name
   class_name_only index name is = rw (name_only index is.0 is.1) (text_only is.0 name is.2)
 
-  pub pair_found : (tags : List ℕ) (index : ℕ) (pair : Indexes) → pair_of pool tags index ≡ Ok pair → NamesPair constants tags index pair
+  pub pair_found : (tags : List ℕ) (index : ℕ) (pair : Indexes) → pair_of pool tags index ≡ Ok pair → NamesPair constants tags index pair.tag pair.first pair.second
   unfolding pair_of
   pair_found tags index pair e =
       let a = bind_ok (constant_of pool index) (pair_in tags) pair e in
       let p = pair_by tags a.0 pair a.2 in
       (constant_found index a.0 a.1 ∙ ap (λ (c : Constant). Some c) p.0, p.1)
 
-  pub pair_only : (tags : List ℕ) (index : ℕ) (pair : Indexes) → NamesPair constants tags index pair → pair_of pool tags index ≡ Ok pair
+  pub pair_only : (tags : List ℕ) (index tag i j : ℕ) → NamesPair constants tags index tag i j → pair_of pool tags index ≡ Ok (record { tag = tag; first = i; second = j })
   unfolding pair_of
-  pair_only tags index pair is = rw (constant_only index (Pair pair.tag pair.first pair.second) is.0, is.1) refl
+  pair_only tags index tag i j is = rw (constant_only index (Pair tag i j) is.0, is.1) refl
+
+  -- the constant of the only tag that is asked
+  one_found : (tag index : ℕ) (pair : Indexes) → pair_of pool (tag ∷ []) index ≡ Ok pair → constant_at constants index ≡ Some (Pair tag pair.first pair.second)
+  one_found tag index pair e =
+      let p = pair_found (tag ∷ []) index pair e in
+      p.0 ∙ ap (λ (t : ℕ). Some (Pair t pair.first pair.second)) (only_one tag pair.tag p.1)
+
+  one_only : (tag index i j : ℕ) → constant_at constants index ≡ Some (Pair tag i j) → pair_of pool (tag ∷ []) index ≡ Ok (record { tag = tag; first = i; second = j })
+  one_only tag index i j is = pair_only (tag ∷ []) index tag i j (is, is_itself tag)
 
   -- what a reference names besides its class
   member_found : (tag index : ℕ) (owner : List ℕ) (r : Reference)
@@ -130,12 +150,11 @@ module _ (pool : Entries) (constants : List Constant) (holds : Holds pool consta
       let a = bind_ok (pair_of pool (12 ∷ []) index) _ r e in
       let b = bind_ok (text_of pool a.0.first) _ r a.2 in
       let c = bind_ok (text_of pool a.0.second) _ r b.2 in
-      let m = pair_found (12 ∷ []) index a.0 a.1 in
-      let same : constant_at constants index ≡ Some (Pair 12 a.0.first a.0.second) = m.0 ∙ ap (λ (t : ℕ). Some (Pair t a.0.first a.0.second)) (only_twelve a.0.tag m.1) in
       let made : Reference = record { tag = tag; owner = owner; name = b.0; desc = c.0 } in
-      subst (λ (x : Reference). (x.tag ≡ tag) × (x.owner ≡ owner) × NamesMember constants index x.name x.desc) (ok_is made r c.2) (refl, refl, (a.0.first, a.0.second, same, text_found a.0.first b.0 b.1, text_found a.0.second c.0 c.1))
+      let names : NamesMember constants index b.0 c.0 = (a.0.first, a.0.second, one_found 12 index a.0 a.1, text_found a.0.first b.0 b.1, text_found a.0.second c.0 c.1) in
+      subst (λ (x : Reference). (x.tag ≡ tag) × (x.owner ≡ owner) × NamesMember constants index x.name x.desc) (ok_is made r c.2) (refl, refl, names)
 
-  pub reference_found : (index : ℕ) (r : Reference) → reference_of pool index ≡ Ok r → NamesReference constants index r
+  pub reference_found : (index : ℕ) (r : Reference) → reference_of pool index ≡ Ok r → NamesReference constants index r.tag r.owner r.name r.desc
   unfolding reference_of
   reference_found index r e =
       let a = bind_ok (pair_of pool (9 ∷ 10 ∷ 11 ∷ []) index) _ r e in
@@ -143,20 +162,38 @@ module _ (pool : Entries) (constants : List Constant) (holds : Holds pool consta
       let c = bind_ok (text_of pool b.0) _ r b.2 in
       let pair = pair_found (9 ∷ 10 ∷ 11 ∷ []) index a.0 a.1 in
       let m = member_found a.0.tag a.0.second c.0 r c.2 in
-      (
-        a.0.first,
-        a.0.second,
-        pair.0 ∙ ap (λ (t : ℕ). Some (Pair t a.0.first a.0.second)) (sym m.0),
-        ap (is_one_of (9 ∷ 10 ∷ 11 ∷ [])) m.0 ∙ pair.1,
-        (b.0, name_found a.0.first b.0 b.1, subst (NamesUtf8 constants b.0) (sym m.1) (text_found b.0 c.0 c.1)),
-        m.2
-      )
+      let here = subst (λ (t : ℕ). NamesPair constants (9 ∷ 10 ∷ 11 ∷ []) index t a.0.first a.0.second) (sym m.0) pair in
+      let owner = subst (NamesUtf8 constants b.0) (sym m.1) (text_found b.0 c.0 c.1) in
+      (a.0.first, a.0.second, here, (b.0, name_found a.0.first b.0 b.1, owner), m.2)
 
-  pub reference_only : (index : ℕ) (r : Reference) → NamesReference constants index r → reference_of pool index ≡ Ok r
+  pub reference_only : (index : ℕ) (r : Reference) → NamesReference constants index r.tag r.owner r.name r.desc → reference_of pool index ≡ Ok r
   unfolding reference_of
-  reference_only index r (i, j, pair, tag, class, (n, d, member, name, desc)) =
-      let p = pair_only (9 ∷ 10 ∷ 11 ∷ []) index (record { tag = r.tag; first = i; second = j }) (pair, tag) in
+  reference_only index r (i, j, pair, class, (n, d, member, name, desc)) =
+      let p = pair_only (9 ∷ 10 ∷ 11 ∷ []) index r.tag i j pair in
       let c = name_only i class.0 class.1 in
       let owner = text_only class.0 r.owner class.2 in
-      let m = pair_only (12 ∷ []) j (record { tag = 12; first = n; second = d }) (member, refl) in
+      let m = one_only 12 j n d member in
       rw (p, c, owner, m, text_only n r.name name, text_only d r.desc desc) refl
+
+  pub handle_found : (index : ℕ) (x : ℕ × Reference) → handle_of pool index ≡ Ok x → NamesHandle constants index x.0 x.1.tag x.1.owner x.1.name x.1.desc
+  unfolding handle_of
+  handle_found index x e =
+      let a = bind_ok (constant_of pool index >>= handle_in) _ x e in
+      let b = bind_ok (reference_of pool a.0.1) _ x a.2 in
+      let c = bind_ok (constant_of pool index) handle_in a.0 a.1 in
+      let names = constant_found index c.0 c.1 ∙ ap (λ (k : Constant). Some k) (handle_by c.0 a.0 c.2) in
+      subst (λ (y : ℕ × Reference). NamesHandle constants index y.0 y.1.tag y.1.owner y.1.name y.1.desc) (ok_is (a.0.0, b.0) x b.2) (a.0.1, names, reference_found a.0.1 b.0 b.1)
+
+  pub handle_only : (index kind : ℕ) (r : Reference) → NamesHandle constants index kind r.tag r.owner r.name r.desc → handle_of pool index ≡ Ok (kind, r)
+  unfolding handle_of
+  handle_only index kind r is = rw (constant_only index (Handle kind is.0) is.1, reference_only is.0 r is.2) refl
+
+  pub dynamic_found : (index i : ℕ) → dynamic_of pool index ≡ Ok i → NamesDynamic constants index i
+  unfolding dynamic_of
+  dynamic_found index i e =
+      let a = bind_ok (pair_of pool (18 ∷ []) index) _ i e in
+      subst (NamesDynamic constants index) (ok_is a.0.first i a.2) (a.0.second, one_found 18 index a.0 a.1)
+
+  pub dynamic_only : (index i : ℕ) → NamesDynamic constants index i → dynamic_of pool index ≡ Ok i
+  unfolding dynamic_of
+  dynamic_only index i is = rw (one_only 18 index i is.0 is.1) refl

@@ -16,7 +16,7 @@ use Rattle.fcg_views.specs.ClassFile.{Constant, constant, is_wide, unusable, slo
 use Rattle.fcg_views.specs.Reads.{Fits}
 use Rattle.fcg_views.specs.Breaks.Pool.{constant_read, Placed, Next, index_read, slot_at, Entries, has_room, constant_kept, at_tag, slot_kept}
 use Rattle.fcg_laws.specs.Tables.{unplaced}
-use Rattle.fcg_laws.proofs.PoolLaws.{constant_found, constant_only}
+use Rattle.fcg_laws.proofs.PoolLaws.{FoundConstant, constant_found, constant_only}
 
 pub tag_ok : {A : Type 0} (at index : ℕ) (r : Result A PoolRule) (x : A) → at_tag at index r ≡ Ok x → r ≡ Ok x
 tag_ok at index (Ok y) x e = let same : y ≡ x = cc in ap (λ (z : _). Ok z) same
@@ -53,52 +53,57 @@ module _ (bytes : List ℕ) where
     pub fit : AllByRecursion Fits constants
     pub room : (pool : Entries) → k + n ≡ 1 + length pool.slots → (second ≡ true → k < 1 + length pool.slots) → each (slot_kept pool) k xs ≡ Ok tt → end.second ≡ false
 
+  none_found : (k at : ℕ) (second : Bool) → at ≤ length bytes → FoundSlots 0 k at second [] (record { at = at; second = second })
+  none_found k at second le = record {
+    constants = [];
+    stands = Stands-none bytes at le;
+    same = sym (append-nil (unusable second));
+    many = refl;
+    fit = tt;
+    room = λ pool long first kept. is_false second (λ is. (let lt = first is in omega arith));
+  }
+
+  second_found : (n k at : ℕ) (xs : List (Option Placed)) (end : Next) → FoundSlots n (k + 1) at false xs end → FoundSlots (suc n) k at true (None ∷ xs) end
+  second_found n k at xs end others = record {
+    constants = others.constants;
+    stands = others.stands;
+    same = ap (λ (l : List (Option Constant)). None ∷ l) others.same;
+    many = ap suc others.many;
+    fit = others.fit;
+    room = λ pool long first kept. others.room pool (omega arith) (λ is. absurd cc) (each_more pool k None xs kept).2;
+  }
+
+  first_found : (n k at : ℕ) (c : Constant) (next : ℕ) (xs : List (Option Placed)) (end : Next) → FoundConstant bytes at c next → FoundSlots n (k + 1) next (is_wide c) xs end → FoundSlots (suc n) k at false (Some (record { tag = at; constant = c }) ∷ xs) end
+  first_found n k at c next xs end first others = record {
+    constants = c ∷ others.constants;
+    stands = rw flat_map-cons (Stands-then first.stands others.stands);
+    same = ap (λ (l : List (Option Constant)). Some c ∷ l) others.same;
+    many = ap suc others.many;
+    fit = (first.fits, others.fit);
+    room = λ pool long none kept. (
+      let here : Placed = record { tag = at; constant = c } in
+      let more = each_more pool k (Some here) xs kept in
+      others.room pool (omega arith) (λ is. (let lt = wide_room pool k here more.0 more.1 is in omega arith)) more.2
+      );
+  }
+
   pub slots_found : IsBytes bytes → (n k at : ℕ) (second : Bool) (x : List (Option Placed) × Next) → at ≤ length bytes → rows (slot_at bytes) n k (record { at = at; second = second }) ≡ Ok x → FoundSlots n k at second x.0 x.1
   unfolding slot_at
   slots_found fits zero k at second x le e =
-      subst (λ (y : List (Option Placed) × Next). FoundSlots 0 k at second y.0 y.1) (ok_is ([], record { at = at; second = second }) x e) (record {
-        constants = [];
-        stands = Stands-none bytes at le;
-        same = sym (append-nil (unusable second));
-        many = refl;
-        fit = tt;
-        room = λ pool long first kept. is_false second (λ is. (let lt = first is in omega arith));
-      })
+      subst (λ (y : List (Option Placed) × Next). FoundSlots 0 k at second y.0 y.1) (ok_is ([], record { at = at; second = second }) x e) (none_found k at second le)
   slots_found fits (suc n) k at true x le e =
       let b = bind_ok (rows (slot_at bytes) n (k + 1) (record { at = at; second = false })) _ x e in
       let others = slots_found fits n (k + 1) at false b.0 le b.1 in
-      subst (λ (y : List (Option Placed) × Next). FoundSlots (suc n) k at true y.0 y.1) (ok_is (None ∷ b.0.0, b.0.1) x b.2) (record {
-        constants = others.constants;
-        stands = others.stands;
-        same = ap (λ (l : List (Option Constant)). None ∷ l) others.same;
-        many = ap suc others.many;
-        fit = others.fit;
-        room = λ pool long first kept. (
-          let c = each_more pool k None b.0.0 kept in
-          others.room pool (omega arith) (λ is. absurd cc) c.2
-          );
-      })
+      subst (λ (y : List (Option Placed) × Next). FoundSlots (suc n) k at true y.0 y.1) (ok_is (None ∷ b.0.0, b.0.1) x b.2) (second_found n k at b.0.0 b.0.1 others)
   slots_found fits (suc n) k at false x le e =
       let a = bind_ok (index_read bytes k at false) _ x e in
       let c = bind_ok (constant_read bytes k at) _ a.0 a.1 in
-      let here : Placed = record { tag = at; constant = c.0.0 } in
-      let wide : Bool = is_wide c.0.0 in
-      let row : Option Placed × Next = (Some here, record { at = c.0.1; second = wide }) in
+      let row : Option Placed × Next = (Some (record { tag = at; constant = c.0.0 }), record { at = c.0.1; second = is_wide c.0.0 }) in
       let e2 = subst (λ (y : Option Placed × Next). (rows (slot_at bytes) n (k + 1) y.1 >>= λ others. Ok (y.0 ∷ others.0, others.1)) ≡ Ok x) (sym (ok_is row a.0 c.2)) a.2 in
       let b = bind_ok (rows (slot_at bytes) n (k + 1) row.1) _ x e2 in
       let first = constant_found bytes fits k at c.0 c.1 in
-      let others = slots_found fits n (k + 1) c.0.1 wide b.0 first.stands.within b.1 in
-      subst (λ (y : List (Option Placed) × Next). FoundSlots (suc n) k at false y.0 y.1) (ok_is (row.0 ∷ b.0.0, b.0.1) x b.2) (record {
-        constants = c.0.0 ∷ others.constants;
-        stands = rw flat_map-cons (Stands-then first.stands others.stands);
-        same = ap (λ (l : List (Option Constant)). Some c.0.0 ∷ l) others.same;
-        many = ap suc others.many;
-        fit = (first.fits, others.fit);
-        room = λ pool long none kept. (
-          let d = each_more pool k (Some here) b.0.0 kept in
-          others.room pool (omega arith) (λ is. (let lt = wide_room pool k here d.0 d.1 is in omega arith)) d.2
-          );
-      })
+      let others = slots_found fits n (k + 1) c.0.1 (is_wide c.0.0) b.0 first.stands.within b.1 in
+      subst (λ (y : List (Option Placed) × Next). FoundSlots (suc n) k at false y.0 y.1) (ok_is (row.0 ∷ b.0.0, b.0.1) x b.2) (first_found n k at c.0.0 c.0.1 b.0.0 b.0.1 first others)
 
   -- ---- and back
   pub record ReadSlots (k at : ℕ) (second : Bool) (marks : List (Option Constant)) (rest : List ℕ) (after : ℕ) : Type 0 where

@@ -21,7 +21,7 @@ use Rattle.fcg_views.specs.Breaks.Number.{u2_at, u4_at}
 use Rattle.fcg_views.specs.Breaks.Pool.{Entries, pool_at}
 use Rattle.fcg_views.specs.Breaks.Class.{header_kept, body_at, class_of}
 use Rattle.fcg_laws.proofs.Places.{u2_found, u2_only, u4_found, u4_only}
-use Rattle.fcg_laws.specs.Tables.{unplaced, Holds}
+use Rattle.fcg_laws.specs.Tables.{Holds}
 use Rattle.fcg_laws.proofs.WordLaws.{methods_differ, methods_distinct}
 use Rattle.fcg_laws.proofs.TableLaws.{FoundPool, pool_found, pool_only}
 use Rattle.fcg_laws.proofs.BodyLaws.{body_text, IsBody, FoundBody, body_found, body_only}

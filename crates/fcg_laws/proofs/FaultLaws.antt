@@ -1,7 +1,6 @@
 -- The first fault: all that stands before it is spelled by the grammar.
 use Rattle.std.proofs.Common.{◌≡◌, ℕ, ◌+◌, ◌-◌, List, [], ◌∷◌, ◌++◌, length, Bool, true, false, Option, refl, sym, ap, subst, ◌∙◌, append_assoc, inl, inr, arith}
-use Rattle.std.specs.Prelude.{Ok, Err}
-use Rattle.std.specs.List.{flat_map, AllByRecursion}
+use Rattle.std.specs.Prelude.{Err}
 use Rattle.std.proofs.lemmas.List.{append-nil, length-map}
 use Rattle.fcg_grammar.specs.Rows.{rows, each}
 use Rattle.fcg_grammar.specs.Spell.{IsBytes, u2}
@@ -11,8 +10,7 @@ use Rattle.fcg_grammar.proofs.FaultLaws.{bind_err, BrokenRow, rows_err, each_err
 use Rattle.fcg_views.specs.declared.view.Method.{Method}
 use Rattle.fcg_views.specs.declared.fault.PoolFault.{PoolFault}
 use Rattle.fcg_views.specs.declared.fault.ClassFault.{ClassFault}
-use Rattle.fcg_views.specs.ClassFile.{Constant, constant, slots, MethodInfo, method_info}
-use Rattle.fcg_views.specs.Reads.{Fits}
+use Rattle.fcg_views.specs.ClassFile.{Constant, slots, MethodInfo, method_info}
 use Rattle.fcg_views.specs.Breaks.Words.{is_alike}
 use Rattle.fcg_views.specs.Breaks.Number.{u2_at}
 use Rattle.fcg_views.specs.Breaks.Pool as pools

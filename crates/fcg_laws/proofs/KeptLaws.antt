@@ -1,10 +1,10 @@
 -- The rules of a pool's own indexes are kept where it is read exactly where the grammar says so.
-use Rattle.std.proofs.Common.{◌≡◌, ℕ, zero, suc, ◌+◌, ◌<◌, Bool, true, false, not, ◌&&◌, ◌||◌, cond, eqb, leb, ltb, List, [], ◌∷◌, ◌++◌, length, Option, Some, None, refl, sym, ap, subst, ◌∙◌, arith}
-use Rattle.std.specs.Prelude.{Result, Ok, Err}
+use Rattle.std.proofs.Common.{◌≡◌, ℕ, zero, suc, ◌+◌, ◌<◌, Bool, true, false, not, ◌&&◌, ◌||◌, cond, eqb, leb, ltb, List, [], ◌∷◌, ◌++◌, length, Option, Some, None, refl, subst, arith}
+use Rattle.std.specs.Prelude.{Ok}
 use Rattle.std.specs.List.{slice_get, AllByRecursion}
 use Rattle.std.proofs.lemmas.Bool.{lt-ltb}
 use Rattle.std.proofs.lemmas.Bool.Decides.{nat_tests}
-use Rattle.fcg_grammar.specs.Reading.{◌>>=◌, unless_broken}
+use Rattle.fcg_grammar.specs.Reading.{unless_broken}
 use Rattle.fcg_grammar.specs.Rows.{each}
 use Rattle.fcg_grammar.proofs.LawLemmas.{bind_ok, kept_ok}
 use Rattle.fcg_views.specs.declared.fault.PoolRule.TheVariants.{BadIndex, WrongKind}

@@ -10,11 +10,12 @@ use Rattle.fcg_grammar.specs.Rows.{rows, each}
 use Rattle.fcg_grammar.specs.Spell.{IsBytes}
 use Rattle.fcg_grammar.proofs.LawLemmas.{bind_ok, kept_ok}
 use Rattle.fcg_grammar.proofs.Standing.{Stands, Stands-none, Stands-then, Stands-back, ok_is}
+use Rattle.fcg_views.specs.declared.fault.PoolFault.{PoolFault}
 use Rattle.fcg_views.specs.declared.fault.PoolRule.{PoolRule}
 use Rattle.fcg_views.specs.declared.fault.PoolRule.TheVariants.{BadIndex}
 use Rattle.fcg_views.specs.ClassFile.{Constant, constant, is_wide, unusable, slots}
 use Rattle.fcg_views.specs.Reads.{Fits}
-use Rattle.fcg_views.specs.Breaks.Pool.{constant_read, Placed, Next, index_read, slot_at, Entries, has_room, constant_kept, at_tag, slot_kept}
+use Rattle.fcg_views.specs.Breaks.Pool.{constant_read, Placed, Next, slot_at, Entries, has_room, constant_kept, at_tag, slot_kept}
 use Rattle.fcg_laws.specs.Tables.{unplaced}
 use Rattle.fcg_laws.proofs.PoolLaws.{FoundConstant, constant_found, constant_only}
 
@@ -81,11 +82,27 @@ module _ (bytes : List ℕ) where
     many = ap suc others.many;
     fit = (first.fits, others.fit);
     room = λ pool long none kept. (
-      let here : Placed = record { tag = at; constant = c } in
-      let more = each_more pool k (Some here) xs kept in
-      others.room pool (omega arith) (λ is. (let lt = wide_room pool k here more.0 more.1 is in omega arith)) more.2
-      );
+        let here : Placed = record { tag = at; constant = c } in
+        let more = each_more pool k (Some here) xs kept in
+        others.room pool (omega arith) (λ is. (let lt = wide_room pool k here more.0 more.1 is in omega arith)) more.2
+        );
   }
+
+  -- the row of a constant, and the rows after it
+  abbrev row_of : ℕ → Constant × ℕ → Option Placed × Next
+  row_of at c = (Some (record { tag = at; constant = c.0 }), record { at = c.1; second = is_wide c.0 })
+
+  abbrev made_row : ℕ → Constant × ℕ → Result (Option Placed × Next) PoolFault
+  made_row at c = Ok (row_of at c)
+
+  abbrev then_rows : ℕ → ℕ → Option Placed × Next → Result (List (Option Placed) × Next) PoolFault
+  then_rows n k row = rows (slot_at bytes) n (k + 1) row.1 >>= λ others. Ok (row.0 ∷ others.0, others.1)
+
+  -- a row that is no second index has a constant
+  row_found : (n k at : ℕ) (x : List (Option Placed) × Next) (r : Result (Constant × ℕ) PoolFault) → constant_read bytes k at ≡ r → ((r >>= made_row at) >>= then_rows n k) ≡ Ok x
+      → (c : Constant × ℕ) × (constant_read bytes k at ≡ Ok c) × (then_rows n k (row_of at c) ≡ Ok x)
+  row_found n k at x (Ok c) is e = (c, is, e)
+  row_found n k at x (Err f) is e = absurd cc
 
   pub slots_found : IsBytes bytes → (n k at : ℕ) (second : Bool) (x : List (Option Placed) × Next) → at ≤ length bytes → rows (slot_at bytes) n k (record { at = at; second = second }) ≡ Ok x → FoundSlots n k at second x.0 x.1
   unfolding slot_at
@@ -96,14 +113,11 @@ module _ (bytes : List ℕ) where
       let others = slots_found fits n (k + 1) at false b.0 le b.1 in
       subst (λ (y : List (Option Placed) × Next). FoundSlots (suc n) k at true y.0 y.1) (ok_is (None ∷ b.0.0, b.0.1) x b.2) (second_found n k at b.0.0 b.0.1 others)
   slots_found fits (suc n) k at false x le e =
-      let a = bind_ok (index_read bytes k at false) _ x e in
-      let c = bind_ok (constant_read bytes k at) _ a.0 a.1 in
-      let row : Option Placed × Next = (Some (record { tag = at; constant = c.0.0 }), record { at = c.0.1; second = is_wide c.0.0 }) in
-      let e2 = subst (λ (y : Option Placed × Next). (rows (slot_at bytes) n (k + 1) y.1 >>= λ others. Ok (y.0 ∷ others.0, others.1)) ≡ Ok x) (sym (ok_is row a.0 c.2)) a.2 in
-      let b = bind_ok (rows (slot_at bytes) n (k + 1) row.1) _ x e2 in
-      let first = constant_found bytes fits k at c.0 c.1 in
-      let others = slots_found fits n (k + 1) c.0.1 (is_wide c.0.0) b.0 first.stands.within b.1 in
-      subst (λ (y : List (Option Placed) × Next). FoundSlots (suc n) k at false y.0 y.1) (ok_is (row.0 ∷ b.0.0, b.0.1) x b.2) (first_found n k at c.0.0 c.0.1 b.0.0 b.0.1 first others)
+      let a = row_found n k at x (constant_read bytes k at) refl e in
+      let b = bind_ok (rows (slot_at bytes) n (k + 1) (row_of at a.0).1) _ x a.2 in
+      let first = constant_found bytes fits k at a.0 a.1 in
+      let others = slots_found fits n (k + 1) a.0.1 (is_wide a.0.0) b.0 first.stands.within b.1 in
+      subst (λ (y : List (Option Placed) × Next). FoundSlots (suc n) k at false y.0 y.1) (ok_is (Some (record { tag = at; constant = a.0.0 }) ∷ b.0.0, b.0.1) x b.2) (first_found n k at a.0.0 a.0.1 b.0.0 b.0.1 first others)
 
   -- ---- and back
   pub record ReadSlots (k at : ℕ) (second : Bool) (marks : List (Option Constant)) (rest : List ℕ) (after : ℕ) : Type 0 where

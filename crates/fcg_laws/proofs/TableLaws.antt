@@ -1,6 +1,6 @@
 -- The whole pool: what is read is spelled so, and what is spelled so is read.
-use Rattle.std.proofs.Common.{◌≡◌, ℕ, ◌+◌, ◌-◌, ◌^◌, ◌<◌, ◌≤◌, Bool, true, false, List, [], ◌∷◌, ◌++◌, length, Option, Some, refl, sym, ap, subst, ◌∙◌, arith}
-use Rattle.std.specs.Prelude.{Result, Ok, Err}
+use Rattle.std.proofs.Common.{◌≡◌, ℕ, ◌+◌, ◌-◌, ◌^◌, ◌<◌, Bool, true, false, List, ◌++◌, length, Option, refl, sym, ap, subst, ◌∙◌, arith}
+use Rattle.std.specs.Prelude.{Ok}
 use Rattle.std.specs.List.{flat_map, AllByRecursion}
 use Rattle.std.proofs.lemmas.List.{append-nil}
 use Rattle.fcg_grammar.specs.Rows.{rows, each}
@@ -12,8 +12,8 @@ use Rattle.fcg_views.specs.Reads.{Fits, HasTag, IsPool}
 use Rattle.fcg_views.specs.Breaks.Pool.{u2_at, Placed, Next, slot_at, Entries, slot_kept, pool_at}
 use Rattle.fcg_laws.specs.Tables.{unplaced, Holds}
 use Rattle.fcg_laws.proofs.PoolPlaces.{u2_found, u2_only}
-use Rattle.fcg_laws.proofs.SlotLaws.{FoundSlots, slots_found, slots_only}
-use Rattle.fcg_laws.proofs.KeptLaws.{IsNamed, each_found, each_only}
+use Rattle.fcg_laws.proofs.SlotLaws.{slots_found, slots_only}
+use Rattle.fcg_laws.proofs.KeptLaws.{each_found, each_only}
 
 -- the last constant has its second index
 pub none_left : (marks : List (Option Constant)) (left : List (Option Constant)) (second : Bool) → marks ++ unusable second ≡ left → second ≡ false → marks ≡ left

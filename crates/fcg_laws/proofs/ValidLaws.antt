@@ -1,6 +1,6 @@
 -- The view of a class file is valid.
 use Rattle.std.proofs.Common.{◌≡◌, ℕ, zero, suc, ◌^◌, ◌≤◌, ◌<◌, List, [], ◌∷◌, length, Option, Some, None, refl, sym, ap, subst, arith}
-use Rattle.std.specs.List.{slice_get, All, AllByRecursion, AllZip}
+use Rattle.std.specs.List.{All, AllByRecursion, AllZip}
 use Rattle.std.proofs.lemmas.List.Elements.{All-nil}
 use Rattle.std.proofs.lemmas.List.Sums.{sum_by-cons}
 use Rattle.fcg_views.specs.declared.view.View.{View}

@@ -2,7 +2,7 @@
 use Rattle.std.proofs.Common.{◌≡◌, ℕ, ◌+◌, ◌-◌, ◌^◌, ◌<◌, Bool, true, false, List, ◌++◌, length, Option, refl, sym, ap, subst, ◌∙◌, arith}
 use Rattle.std.specs.Prelude.{Ok}
 use Rattle.std.specs.List.{flat_map, AllByRecursion}
-use Rattle.std.proofs.lemmas.List.{append-nil}
+use Rattle.std.proofs.lemmas.List.{append-nil, length-map}
 use Rattle.fcg_grammar.specs.Rows.{rows, each}
 use Rattle.fcg_grammar.specs.Spell.{IsBytes, u2}
 use Rattle.fcg_grammar.proofs.LawLemmas.{bind_ok}
@@ -57,6 +57,13 @@ module _ (bytes : List ℕ) where
         fit = s.fit;
         named = each_found (whole b.0.0) s.constants holds c.0 c.1;
       })
+
+  -- it is a pool of the grammar
+  pub pool_holds : IsBytes bytes → (at : ℕ) (x : Entries × ℕ) → pool_at bytes at ≡ Ok x → (constants : List Constant) × Holds x.0 constants × IsPool constants
+  pool_holds fits at x e =
+      let found = pool_found fits at x e in
+      let long : length x.0.slots ≡ length (slots found.constants) = sym (length-map x.0.slots _) ∙ ap length found.holds in
+      (found.constants, found.holds, record { few = omega (arith, found.few, found.many, long); fit = found.fit; named = found.named })
 
   pub record ReadPool (at : ℕ) (constants : List Constant) (rest : List ℕ) (after : ℕ) : Type 0 where
     pub pool : Entries

@@ -23,8 +23,8 @@ pub record Fills (bytes : List ℕ) (at : ℕ) (text : List ℕ) (after : ℕ) :
   pub same : part bytes at (length text) ≡ text
 
 -- the first fault of a pool is its count's, or that of a constant after some that stand there, or, after all
--- constants (the last of which may be a Long or Double without its second index), that of the first slot whose
--- constant has an index that names the wrong thing
+-- constants (the last of which may be a Long or Double without its second index), that of the first slot that breaks
+-- the rules of indexes
 pub data BrokenPool (bytes : List ℕ) (at : ℕ) (f : PoolFault) : Type 0 where
   InCount : pools.u2_at bytes at 0 ≡ Err f → BrokenPool bytes at f
   InConstant : (count : ℕ) (before : List Constant) (place : ℕ) → Fills bytes at (u2 count ++ flat_map constant before) place → length (slots before) < count - 1 → AllByRecursion Fits before → constant_read bytes (1 + length (slots before)) place ≡ Err f → BrokenPool bytes at f

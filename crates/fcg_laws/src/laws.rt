@@ -7,7 +7,7 @@ ghost use Rattle.fcg_views.specs.declared.view.View.{View};
 ghost use Rattle.fcg_views.specs.declared.fault.PoolFault.{PoolFault};
 ghost use Rattle.fcg_views.specs.declared.fault.ClassFault.{ClassFault};
 ghost use Rattle.fcg_views.specs.ClassFile.{Constant};
-ghost use Rattle.fcg_views.specs.Reads.{Reads, Verdict};
+ghost use Rattle.fcg_views.specs.Reads.{IsPool, Reads, Verdict};
 ghost use Rattle.fcg_views.specs.Valid.{IsValid};
 ghost use Rattle.fcg_views.specs.Breaks.Pool.{Placed, Entries, slot_kept, pool_at};
 ghost use Rattle.fcg_views.specs.Breaks.Members.{methods_at};
@@ -34,6 +34,11 @@ pub fn pool_check_is_first()
 /// What stands in a pool before its first fault.
 pub fn first_fault_of_pool()
     ensures { (bytes : List ℕ) (at : ℕ) (f : PoolFault) → IsBytes bytes → pool_at bytes at ≡ Err f → BrokenPool bytes at f }
+{}
+
+/// A pool that is read holds the constants of a pool of the grammar.
+pub fn pools_hold_constants()
+    ensures { (bytes : List ℕ) (at : ℕ) (pool : Entries) (after : ℕ) → IsBytes bytes → pool_at bytes at ≡ Ok (pool, after) → (constants : List Constant) × Holds pool constants × IsPool constants }
 {}
 
 /// What stands in the methods before their first fault, where the pool has these constants.

@@ -8,5 +8,5 @@ mod laws;
 
 pub use laws::{
     class_files_are_valid, first_fault_of_methods, first_fault_of_pool, one_verdict,
-    pool_check_is_first,
+    pool_check_is_first, pools_hold_constants,
 };

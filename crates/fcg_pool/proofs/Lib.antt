@@ -1,0 +1,4 @@
+pub mod GroupLemmas
+pub mod ConstantLemmas
+pub mod TagLemmas
+pub mod PlaceLemmas

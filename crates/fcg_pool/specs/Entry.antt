@@ -1,0 +1,23 @@
+-- The shapes and constants of the code, as those of the definition.
+use Rattle.std.specs.Prelude.{Option, Some, None}
+use Rattle.fcg_views.specs.ClassFile as file
+use Rattle.fcg_views.specs.ClassFile.{Constant}
+use Rattle.fcg_pool.specs.declared.constant.Shape.{Shape}
+use Rattle.fcg_pool.specs.declared.constant.Shape.TheVariants as shapes
+use Rattle.fcg_pool.specs.declared.constant.Entry.{Entry}
+use Rattle.fcg_pool.specs.declared.constant.Entry.TheVariants.{Utf8, Plain, Named, Pair, Handle}
+
+abbrev pub shape_seen : Option Shape → Option file.Shape
+shape_seen None = None
+shape_seen (Some shapes.Text) = Some file.Text
+shape_seen (Some (shapes.Bytes n)) = Some (file.Bytes n)
+shape_seen (Some shapes.One) = Some file.One
+shape_seen (Some shapes.Two) = Some file.Two
+shape_seen (Some shapes.Kinded) = Some file.Kinded
+
+abbrev pub constant_seen : Entry → Constant
+constant_seen (Utf8 text) = file.Utf8 text.now
+constant_seen (Plain tag bytes) = file.Plain tag bytes.now
+constant_seen (Named tag i) = file.Named tag i
+constant_seen (Pair tag i j) = file.Pair tag i j
+constant_seen (Handle kind i) = file.Handle kind i

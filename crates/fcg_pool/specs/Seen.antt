@@ -1,0 +1,29 @@
+-- The structs of the code, as those of the definition.
+use Rattle.std.specs.Prelude.{ℕ, List, false, Result}
+use Rattle.fcg_grammar.specs.Reading.{◌>>=◌}
+use Rattle.fcg_views.specs.declared.fault.PoolRule.{PoolRule}
+use Rattle.fcg_views.specs.Breaks.Pool as pool
+use Rattle.fcg_pool.specs.declared.entries.Next.{Next}
+use Rattle.fcg_pool.specs.declared.pool.Indexes.{Indexes}
+use Rattle.fcg_pool.specs.declared.pool.RefSpan.{RefSpan}
+
+abbrev pub next_of : Next → pool.Next
+next_of n = record { at = n.at; second = n.second }
+
+-- before the first constant
+abbrev pub start : ℕ → pool.Next
+start at = record { at = at; second = false }
+
+abbrev pub indexes_of : Indexes → pool.Indexes
+indexes_of x = record { tag = x.tag; first = x.first; second = x.second }
+
+abbrev pub span_of : RefSpan → pool.Reference
+span_of r = record { tag = r.tag; owner = r.owner.now; name = r.name.now; desc = r.desc.now }
+
+-- the name of the Class at an index
+abbrev pub class_name_of : pool.Entries → ℕ → Result (List ℕ) PoolRule
+class_name_of p index = pool.name_of p index >>= pool.text_of p
+
+-- the kind of the MethodHandle at an index, and the index of what it names
+abbrev pub handle_pair_of : pool.Entries → ℕ → Result (ℕ × ℕ) PoolRule
+handle_pair_of p index = pool.constant_of p index >>= pool.handle_in

@@ -1,0 +1,14 @@
+//! The reader of constant pools (JVMS 4.4). It answers exactly what the definitions of fcg_views give: the constants
+//! by their indexes, or the first fault. The crate stands on the words of formats and on the values that every layer
+//! speaks of.
+#![tactic(auto)]
+
+mod check;
+mod constant;
+mod entries;
+mod groups;
+mod number;
+mod pool;
+
+pub use fcg_views::{PoolFault, PoolRule};
+pub use pool::{Pool, RefSpan};

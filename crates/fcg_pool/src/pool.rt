@@ -1,0 +1,231 @@
+//! The constant pool of a class file.
+ghost use Rattle.std.specs.Prelude.{◌≡◌, ◌≤◌, ◌<◌, ◌∷◌, [], length, IfOk};
+ghost use Rattle.fcg_grammar.specs.Reading.{seen, Gives};
+ghost use Rattle.fcg_grammar.specs.Rows.{each};
+
+use crate::check::{check_slot, is_one_of};
+use crate::constant::{Entry, find_constant};
+use crate::entries::read_slots;
+use crate::number::read_u2;
+use fcg_grammar::ReadError;
+use fcg_views::{PoolFault, PoolRule};
+use std::alloc::Global;
+use std::marker::Model;
+
+/// What a Fieldref, Methodref or InterfaceMethodref names (JVMS 4.4.2): the name of its Class, and the name and the
+/// descriptor of its NameAndType. They are slices of the file.
+#[derive(Clone, Copy)]
+pub struct RefSpan<'a> {
+    /// The tag of the reference: 9, 10 or 11.
+    pub tag: u8,
+    pub owner: &'a [u8],
+    pub name: &'a [u8],
+    pub desc: &'a [u8],
+}
+
+/// The two indexes of a constant, and its tag.
+#[derive(Clone, Copy)]
+pub struct Indexes {
+    pub tag: u8,
+    pub first: u16,
+    pub second: u16,
+}
+
+/// The constant pool of a class file (JVMS 4.4): the file's bytes, and where the constant of each index stands.
+/// Nothing of the file is copied, and an accessor takes no memory and a few loads.
+#[derive(Drop)]
+pub struct Pool<'a> {
+    bytes: &'a [u8],
+    // by the index less 1; the second index of a Long or Double has no constant
+    places: Vec<Option<usize>>,
+}
+
+impl<'a> Model for Pool<'a> {
+    ghost use Rattle.std.specs.Prelude.{map};
+    ghost use Rattle.fcg_views.specs.Breaks.Pool.{Entries};
+    ghost use Rattle.fcg_pool.specs.Standing.{slot_in, IsPool};
+
+    ghost Value = { Entries };
+
+    ghost view = { λ p. record { bytes = p.bytes.now; slots = map (slot_in p.bytes.now) p.places.items } };
+
+    ghost invariant = { λ p. IsPool p.bytes.now p.places.items };
+}
+
+impl<'a> Pool<'a> {
+    ghost use Rattle.fcg_views.specs.Breaks.Pool.{Entries, constant_of, text_of, name_of, pair_of, reference_of, handle_of, dynamic_of, slot_kept, pool_at};
+    ghost use Rattle.fcg_pool.specs.Entry.{constant_seen};
+    ghost use Rattle.fcg_pool.specs.Seen.{indexes_of, span_of, class_name_of, handle_pair_of};
+
+    /// The bytes of the file.
+    pub fn bytes(&self) -> &'a [u8]
+        ensures { result.now ≡ self.now.bytes }
+    {
+        self.bytes
+    }
+
+    /// How many indexes there are.
+    pub fn len(&self) -> usize
+        ensures len { result ≡ length self.now.slots }
+        ensures few { result < 65535 }
+    {
+        self.places.len()
+    }
+
+    // The constant at an index.
+    #[tactic(auto, unfolding(fcg_views::specs::Breaks::Pool::constant_of))]
+    pub(crate) fn constant(&self, index: u16) -> Result<Entry<'a>, PoolRule>
+        ensures { seen constant_seen result ≡ constant_of self.now index }
+    {
+        if index == 0 {
+            return Err(PoolRule::BadIndex);
+        }
+        match self.places.get(usize::from(index) - 1) {
+            None => Err(PoolRule::BadIndex),
+            Some(None) => Err(PoolRule::BadIndex),
+            Some(Some(at)) => Ok(find_constant(self.bytes, *at)),
+        }
+    }
+
+    /// The bytes of the Utf8 at an index (JVMS 4.4.7), which are a slice of the file.
+    #[tactic(auto, unfolding(fcg_views::specs::Breaks::Pool::text_of))]
+    pub fn utf8(&self, index: u16) -> Result<&'a [u8], PoolRule>
+        ensures { seen (λ text. text.now) result ≡ text_of self.now index }
+    {
+        match self.constant(index)? {
+            Entry::Utf8(text) => Ok(text),
+            Entry::Plain(_, _) => Err(PoolRule::WrongKind),
+            Entry::Named(_, _) => Err(PoolRule::WrongKind),
+            Entry::Pair(_, _, _) => Err(PoolRule::WrongKind),
+            Entry::Handle(_, _) => Err(PoolRule::WrongKind),
+        }
+    }
+
+    /// The index of the name of the Class at an index (JVMS 4.4.1).
+    #[tactic(auto, unfolding(fcg_views::specs::Breaks::Pool::name_of))]
+    pub fn class_index(&self, index: u16) -> Result<u16, PoolRule>
+        ensures { result ≡ name_of self.now index }
+    {
+        match self.constant(index)? {
+            Entry::Utf8(_) => Err(PoolRule::WrongKind),
+            Entry::Plain(_, _) => Err(PoolRule::WrongKind),
+            Entry::Named(tag, name) => {
+                if tag == 7 {
+                    Ok(name)
+                } else {
+                    Err(PoolRule::WrongKind)
+                }
+            }
+            Entry::Pair(_, _, _) => Err(PoolRule::WrongKind),
+            Entry::Handle(_, _) => Err(PoolRule::WrongKind),
+        }
+    }
+
+    /// The name of the Class at an index (JVMS 4.4.1).
+    pub fn class_name(&self, index: u16) -> Result<&'a [u8], PoolRule>
+        ensures { seen (λ text. text.now) result ≡ class_name_of self.now index }
+    {
+        let name = self.class_index(index)?;
+        self.utf8(name)
+    }
+
+    // The two indexes of the constant at an index, which is of one of these tags.
+    #[tactic(auto, unfolding(fcg_views::specs::Breaks::Pool::pair_of))]
+    fn pair(&self, tags: &[u8], index: u16) -> Result<Indexes, PoolRule>
+        ensures { seen indexes_of result ≡ pair_of self.now tags.now index }
+    {
+        match self.constant(index)? {
+            Entry::Utf8(_) => Err(PoolRule::WrongKind),
+            Entry::Plain(_, _) => Err(PoolRule::WrongKind),
+            Entry::Named(_, _) => Err(PoolRule::WrongKind),
+            Entry::Pair(tag, first, second) => {
+                if is_one_of(tags, tag) {
+                    Ok(Indexes { tag, first, second })
+                } else {
+                    Err(PoolRule::WrongKind)
+                }
+            }
+            Entry::Handle(_, _) => Err(PoolRule::WrongKind),
+        }
+    }
+
+    /// What the Fieldref, Methodref or InterfaceMethodref at an index names (JVMS 4.4.2).
+    #[tactic(auto, unfolding(fcg_views::specs::Breaks::Pool::reference_of))]
+    pub fn reference(&self, index: u16) -> Result<RefSpan<'a>, PoolRule>
+        ensures { seen span_of result ≡ reference_of self.now index }
+    {
+        let pair = self.pair(&[9, 10, 11], index)?;
+        let class = self.class_index(pair.first)?;
+        let owner = self.utf8(class)?;
+        let member = self.pair(&[12], pair.second)?;
+        let name = self.utf8(member.first)?;
+        let desc = self.utf8(member.second)?;
+        Ok(RefSpan {
+            tag: pair.tag,
+            owner,
+            name,
+            desc,
+        })
+    }
+
+    // The kind of the MethodHandle at an index, and the index of what it names.
+    fn handle_pair(&self, index: u16) -> Result<(u8, u16), PoolRule>
+        ensures { result ≡ handle_pair_of self.now index }
+    {
+        match self.constant(index)? {
+            Entry::Utf8(_) => Err(PoolRule::WrongKind),
+            Entry::Plain(_, _) => Err(PoolRule::WrongKind),
+            Entry::Named(_, _) => Err(PoolRule::WrongKind),
+            Entry::Pair(_, _, _) => Err(PoolRule::WrongKind),
+            Entry::Handle(kind, reference) => Ok((kind, reference)),
+        }
+    }
+
+    /// The kind of the MethodHandle at an index (JVMS 4.4.8), and what it names.
+    #[tactic(auto, unfolding(fcg_views::specs::Breaks::Pool::handle_of))]
+    pub fn handle(&self, index: u16) -> Result<(u8, RefSpan<'a>), PoolRule>
+        ensures { seen (λ x. (x.0, span_of x.1)) result ≡ handle_of self.now index }
+    {
+        let (kind, named) = self.handle_pair(index)?;
+        let reference = self.reference(named)?;
+        Ok((kind, reference))
+    }
+
+    /// The index of the bootstrap method of the InvokeDynamic at an index (JVMS 4.4.10).
+    #[tactic(auto, unfolding(fcg_views::specs::Breaks::Pool::dynamic_of))]
+    pub fn dynamic(&self, index: u16) -> Result<u16, PoolRule>
+        ensures { result ≡ dynamic_of self.now index }
+    {
+        let pair = self.pair(&[18], index)?;
+        Ok(pair.first)
+    }
+
+    // The indexes of each constant.
+    fn check(&self) -> Result<(), PoolFault>
+        ensures { result ≡ each (slot_kept self.now) 1 self.now.slots }
+    {
+        for (i, place) in self.places.iter().enumerate() {
+            check_slot(self, i as u16 + 1, *place)?;
+        }
+        Ok(())
+    }
+
+    /// The pool whose count stands at a place, and the place after it; or its first fault in reading order. Takes one
+    /// pass over the constants, and one more over what their indexes name. It takes memory for a place an index.
+    #[tactic(auto, unfolding(fcg_views::specs::Breaks::Pool::pool_at))]
+    pub fn read(
+        alloc: Global,
+        bytes: &'a [u8],
+        at: usize,
+    ) -> Result<(Pool<'a>, usize), ReadError<PoolFault>>
+        requires { at ≤ length bytes.now }
+        ensures value { Gives (λ x. (x.0, x.1)) result (pool_at bytes.now at) }
+        ensures inside { IfOk result (λ x. (x.1 ≤ length x.0.bytes) × (x.0.bytes ≡ bytes.now)) }
+    {
+        let count = read_u2(bytes, at, 0)?;
+        let (places, next) = read_slots(alloc, bytes, count, at + 2)?;
+        let pool = Pool { bytes, places };
+        pool.check()?;
+        Ok((pool, next.at))
+    }
+}

@@ -1,4 +1,3 @@
-pub mod Pool
 pub mod Names
 pub mod Methods
 pub mod Members

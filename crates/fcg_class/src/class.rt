@@ -3,14 +3,16 @@ ghost use Rattle.std.specs.Prelude.{◌≡◌, ◌≤◌, ◌+◌, ℕ, length, 
 ghost use Rattle.fcg_grammar.specs.Reading.{Gives};
 ghost use Rattle.fcg_grammar.specs.Rows.{rows};
 ghost use Rattle.fcg_views.specs.Reads.{Reads};
+ghost use Rattle.fcg_views.specs.Breaks.Fault.{in_pool};
+ghost use Rattle.fcg_views.specs.Breaks.Pool.{pool_at};
 ghost use Rattle.fcg_views.specs.Breaks.Class.{header_kept, type_at, super_at, interface_at, interfaces_at, flags_at, fields_at, members_at, body_at, class_of};
 
 use crate::members::{pass_attributes, read_methods};
 use crate::names::ClassNames;
 use crate::number::{read_u2, read_u4};
-use crate::pool::Pool;
 use crate::text::find_type;
 use fcg_grammar::ReadError;
+use fcg_pool::Pool;
 use fcg_views::{ClassFault, ClassRule, Fields, Methods, Name, Names, View, fault_at};
 use std::alloc::Global;
 
@@ -29,6 +31,23 @@ fn read_header(bytes: &[u8]) -> Result<(), ClassFault>
         return Err(fault_at(6, 0, ClassRule::Version));
     }
     Ok(())
+}
+
+// The constant pool whose count stands at a place, and the place after it.
+fn read_pool(
+    alloc: Global,
+    bytes: &[u8],
+    at: usize,
+) -> Result<(Pool<'_>, usize), ReadError<ClassFault>>
+    requires { at ≤ length bytes.now }
+    ensures value { Gives (λ x. (x.0, x.1)) result (in_pool (pool_at bytes.now at)) }
+    ensures inside { IfOk result (λ x. (x.1 ≤ length x.0.bytes) × (x.0.bytes ≡ bytes.now)) }
+{
+    match Pool::read(alloc, bytes, at) {
+        Ok(read) => Ok(read),
+        Err(ReadError::NoMemory) => Err(ReadError::NoMemory),
+        Err(ReadError::Fault(fault)) => Err(ReadError::Fault(ClassFault::from(fault))),
+    }
 }
 
 // The name of the type whose index stands at a place.
@@ -202,7 +221,7 @@ fn read_whole(alloc: Global, bytes: &[u8]) -> Result<View, ReadError<ClassFault>
     ensures { Gives (λ view. view) result (class_of bytes.now) }
 {
     read_header(bytes)?;
-    let (pool, after) = Pool::read(alloc, bytes, 8)?;
+    let (pool, after) = read_pool(alloc, bytes, 8)?;
     let mut names = ClassNames::new(alloc, &pool)?;
     read_body(alloc, &mut names, after)
 }

@@ -1,18 +1,16 @@
 //! Readers of class files and of bundles of them. They answer exactly what the definitions of fcg_views and of
 //! specs/ give: the views of a bundle's class files, or its fault. The crate stands on the words of formats, on the
-//! values that every layer speaks of, and on the laws of class files.
+//! values that every layer speaks of, on the reader of constant pools, and on the laws of class files.
 #![tactic(auto)]
 
 mod bundle;
 mod class;
-mod groups;
 mod laws;
 mod members;
 mod methods;
 mod names;
 mod number;
 mod path;
-mod pool;
 #[cfg(test)]
 mod tests;
 mod text;

@@ -11,9 +11,9 @@ ghost use Rattle.fcg_class.specs.Members.{method_of, AreTextsOf, GivesNext, begu
 use crate::methods::MethodTable;
 use crate::names::ClassNames;
 use crate::number::{read_part, read_u2, read_u4};
-use crate::pool::Pool;
 use crate::text::{Text, find_text};
 use fcg_grammar::ReadError;
+use fcg_pool::Pool;
 use fcg_views::{
     ClassFault, ClassRule, Method, Methods, NoMemory, Sites, fault_at, read_descriptor,
 };

@@ -3,8 +3,8 @@ ghost use Rattle.std.specs.Prelude.{◌≡◌, Ok, IfOk, None, option_copied, sl
 ghost use Rattle.fcg_views.specs.Breaks.Pool.{text_of};
 ghost use Rattle.fcg_class.specs.Names.{AllWithoutName};
 
-use crate::pool::Pool;
 use crate::text::Text;
+use fcg_pool::Pool;
 use fcg_views::{Name, NoMemory};
 use std::alloc::{AllocError, Global};
 use std::marker::Model;

@@ -2,17 +2,9 @@
 //! the pool's index that is in hand, or 0.
 ghost use Rattle.std.specs.Prelude.{◌≡◌, ◌≤◌, ◌+◌, length, OnOk};
 ghost use Rattle.fcg_grammar.specs.Reading.{seen};
-ghost use Rattle.fcg_views.specs.Breaks.Number.{u1_at, u2_at, u4_at, part_at};
+ghost use Rattle.fcg_views.specs.Breaks.Number.{u2_at, u4_at, part_at};
 
 use fcg_views::{ClassFault, ClassRule, fault_at};
-
-pub fn read_u1(bytes: &[u8], at: usize, index: u16) -> Result<u8, ClassFault>
-    requires { at ≤ length bytes.now }
-    ensures value { result ≡ u1_at bytes.now at index }
-    ensures inside { OnOk result (at + 1 ≤ length bytes.now) }
-{
-    fcg_grammar::read_u1(bytes, at, fault_at(at, index, ClassRule::Cut))
-}
 
 pub fn read_u2(bytes: &[u8], at: usize, index: u16) -> Result<u16, ClassFault>
     requires { at ≤ length bytes.now }

@@ -44,8 +44,8 @@ const CHANGES: [(usize, u8, ClassRule, u32, u16); 23] = [
     (3, 0xbf, ClassRule::Magic, 0, 0),
     (7, 44, ClassRule::Version, 6, 0),
     (7, 66, ClassRule::Version, 6, 0),
-    // the constants: a tag 3; a name's index that is 0, past the pool, of a Class; a lone byte 80
-    (10, 3, ClassRule::NotBuilt, 10, 1),
+    // the constants: a tag 2; a name's index that is 0, past the pool, of a Class; a lone byte 80
+    (10, 2, ClassRule::BadTag, 10, 1),
     (19, 0, ClassRule::BadIndex, 17, 3),
     (19, 17, ClassRule::BadIndex, 17, 3),
     (19, 1, ClassRule::WrongKind, 17, 3),

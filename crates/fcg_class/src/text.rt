@@ -6,7 +6,7 @@ ghost use Rattle.fcg_views.specs.Breaks.Members.{text_at};
 ghost use Rattle.fcg_views.specs.Breaks.Class.{type_at};
 
 use crate::number::read_u2;
-use crate::pool::Pool;
+use fcg_pool::Pool;
 use fcg_views::{ClassFault, ClassRule, at_index, fault_at};
 
 /// The text of a Utf8, and its index in the pool.
@@ -25,7 +25,7 @@ pub fn find_text<'a>(pool: &Pool<'a>, at: usize) -> Result<Text<'a>, ClassFault>
     ensures inside { OnOk result (at + 2 ≤ length pool.now.bytes) }
 {
     let index = read_u2(pool.bytes(), at, 0)?;
-    let bytes = at_index(at, index, pool.text(index))?;
+    let bytes = at_index(at, index, pool.utf8(index))?;
     Ok(Text { index, bytes })
 }
 
@@ -38,8 +38,8 @@ pub fn find_type<'a>(pool: &Pool<'a>, at: usize) -> Result<Text<'a>, ClassFault>
     ensures inside { OnOk result (at + 2 ≤ length pool.now.bytes) }
 {
     let class = read_u2(pool.bytes(), at, 0)?;
-    let index = at_index(at, class, pool.name_index(class))?;
-    let bytes = at_index(at, class, pool.text(index))?;
+    let index = at_index(at, class, pool.class_index(class))?;
+    let bytes = at_index(at, class, pool.utf8(index))?;
     if bytes.is_empty() {
         return Err(fault_at(at, 0, ClassRule::EmptyName));
     }

@@ -9,6 +9,8 @@ mod entries;
 mod groups;
 mod number;
 mod pool;
+#[cfg(test)]
+mod tests;
 
 pub use fcg_views::{PoolFault, PoolRule};
 pub use pool::{Pool, RefSpan};

@@ -1,4 +1,5 @@
 pub mod Pool
+pub mod Firsts
 pub mod Names
 pub mod Methods
 pub mod Members

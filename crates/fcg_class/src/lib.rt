@@ -5,6 +5,7 @@
 
 mod bundle;
 mod class;
+mod firsts;
 mod groups;
 mod laws;
 mod members;

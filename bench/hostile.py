@@ -3,8 +3,9 @@
 
 Each input is about as large as the limits allow. The status, the output and the fault of each run are
 compared with plain.py; where a case can be made smaller, a second row shows it at a quarter of its size, so
-that growth can be seen. The table has the bytes in and out, the status, the least seconds of ./fcg list and
-of cat (their output to /dev/null), the quotient, and the peak memory of one run of ./fcg list.
+that growth can be seen. A run is bound to 120 seconds and to 8 GiB. The table has the bytes in and out, the
+status, the least seconds of ./fcg list and of cat (their output to /dev/null), the quotient, and the peak
+memory of one run of ./fcg list.
 """
 
 import argparse
@@ -126,13 +127,16 @@ def method_names(part):
     return one(class_file(pool, this, pairs[:int(len(pairs) * part)]))
 
 
-def one_name(part, length=60000, fill=b"n"):
-    """One class file of 65,531 methods of one long name and different descriptors."""
+def one_name(part, length=60000, fill=b"n", copies=1):
+    """One class file of some 65,500 methods of one long name and different descriptors.
+
+    The name is in the pool `copies` times, and the methods take them in turn.
+    """
     pool = Pool()
     this = pool.named(b"A")
-    name = pool.utf8(fill * (length // len(fill)))
-    kinds = [pool.utf8(b"(L" + stem(number) + b";)V") for number in range(int((POOL - 3) * part))]
-    return one(class_file(pool, this, [(name, kind, b"\0\0") for kind in kinds]))
+    names = [pool.utf8(fill * length) for _ in range(copies)]
+    kinds = [pool.utf8(b"(L" + stem(number) + b";)V") for number in range(int((POOL - 2 - copies) * part))]
+    return one(class_file(pool, this, [(names[place % copies], kind, b"\0\0") for place, kind in enumerate(kinds)]))
 
 
 def long_fronts(part, pairs=None, front=30000):
@@ -254,6 +258,9 @@ def cases():
     yield "the same, 65535 methods of them, refused", lambda part: spoiled(long_fronts(part, U2)), True
     yield "the same, 65535 methods of them", lambda part: long_fronts(part, U2), False
     yield "one name of 60000 bytes, refused", lambda part: spoiled(one_name(part)), True
+    yield "one name of 60000 bytes, 8 times in the pool, refused", lambda part: spoiled(one_name(part, copies=8)), False
+    yield ("one name of 60000 bytes, copies to the limit, refused",
+           by_size(lambda s: spoiled(full(plain.unpack(one_name(1))[0][1], s))), False)
     yield "one name of 60000 bytes", one_name, True
     yield "one name of 60000 escaped bytes", lambda part: one_name(part, fill=b"."), False
     yield "type names of 65535 escaped bytes", by_size(lambda s: full(long_type(), s)), True
@@ -314,17 +321,23 @@ def measure_case(folder, name, data, runs):
     path = measure.write(folder, "input", data)
     want = expected(data)
     got = measure.weigh(path, bound=BOUND)
-    if got.status is None:
+    if got.status is None or got.status not in (0, 3):
         ours, made = None, 1
     else:
         ours, made = measure.least(path, measure.LIST, runs, BOUND, BUDGET)
     cats, _ = measure.least(path, measure.CAT, runs)
     times = "-" if ours is None else "%.1f" % (ours / cats)
-    status = "bound" if got.status is None else str(got.status)
+    status = "time" if got.status is None else str(got.status)
     print("| %-58s | %10d | %12d | %6s | %9s | %7s | %8s | %9s | %4d |"
           % (name, len(data), got.size, status, measure.show(ours), measure.show(cats), times,
-             got.peak if got.peak is not None else "-", made), flush=True)
-    if got.status is None or (got.status, got.size, got.digest, got.err) == want:
+             "-" if got.peak is None or got.status is None else got.peak, made), flush=True)
+    if got.status is None:
+        print("    the bound of %.0f s was passed" % BOUND, flush=True)
+        return True
+    if (got.status, got.err) == (7, b"no memory\n"):
+        print("    the bound of %d bytes of memory was passed" % measure.MEMORY, flush=True)
+        return True
+    if (got.status, got.size, got.digest, got.err) == want:
         return True
     print("DIFFERENCE: fcg status %r, %d bytes, %s, %r; plain.py status %d, %d bytes, %s, %r"
           % (got.status, got.size, got.digest, got.err, *want), flush=True)
@@ -336,9 +349,11 @@ def main():
     parser = argparse.ArgumentParser(description=__doc__, formatter_class=argparse.RawDescriptionHelpFormatter)
     parser.add_argument("words", nargs="*", help="only the cases with one of these words in their names")
     parser.add_argument("--runs", type=int, default=5, help="runs of each, the least counts (5)")
+    parser.add_argument("--from", dest="start", help="only the cases from the first one with this word in its name on")
     parser.add_argument("--whole", action="store_true", help="no rows of a quarter of the size")
     options = parser.parse_args()
     measure.ready()
+    measure.bind_memory()
     print("| %-58s | %10s | %12s | %6s | %9s | %7s | %8s | %9s | runs |"
           % ("case", "bytes in", "bytes out", "status", "list s", "cat s", "quotient", "peak KiB"))
     print("|-" + " | ".join(["-" * 58, "-" * 10, "-" * 12, "-" * 6, "-" * 9, "-" * 7, "-" * 8, "-" * 9, "-" * 4])
@@ -351,6 +366,10 @@ def main():
                 label = before + ": " + name[len("the same"):].lstrip(", ")
             else:
                 label = before = name
+            if options.start:
+                if options.start not in label:
+                    continue
+                options.start = None
             if options.words and not any(word in label for word in options.words):
                 continue
             if quarters and not options.whole:

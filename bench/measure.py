@@ -3,6 +3,7 @@
 
 import hashlib
 import os
+import resource
 import subprocess
 import sys
 import tempfile
@@ -13,11 +14,20 @@ FCG = os.path.join(TOP, "fcg")
 LIST = [FCG, "list"]
 CAT = ["cat"]
 WEIGH = "/usr/bin/time"
+MEMORY = 8 << 30
 
 
 def ready():
     """Has ./fcg build its program where it is missing, so that no run is timed with a build in it."""
     subprocess.run(LIST, input=b"FCGB\x00\x01\x00\x00\x00\x00", stdout=subprocess.DEVNULL, check=False)
+
+
+def bind_memory():
+    """Bounds the memory of this process and of the children to come, so that none takes that of the machine.
+
+    It is not set in each child between fork and exec: the fork of a large process would be timed with it.
+    """
+    resource.setrlimit(resource.RLIMIT_AS, (MEMORY, resource.getrlimit(resource.RLIMIT_AS)[1]))
 
 
 def run_bytes(data, words=LIST):

@@ -1,3 +1,4 @@
+pub mod FirstLemmas
 pub mod NameLemmas
 pub mod MethodLemmas
 pub mod PathLemmas

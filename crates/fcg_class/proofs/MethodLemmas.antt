@@ -1,11 +1,10 @@
 -- The set of signatures beside the list of methods.
-use Rattle.std.proofs.Common.{◌≡◌, ℕ, List, [], ◌∷◌, ◌++◌, Bool, true, false, cond, ◌&&◌, ◌||◌, ◌-◌, ◌+◌, ◌<◌, refl, sym, subst, ◌∙◌}
-use Rattle.std.specs.Prelude.{Result, Ok}
+use Rattle.std.proofs.Common.{◌≡◌, ℕ, List, [], ◌∷◌, ◌++◌, Bool, true, false, cond, get_or, ◌&&◌, ◌||◌, ◌-◌, ◌+◌, ◌<◌, refl, sym, subst, ◌∙◌}
+use Rattle.std.specs.Prelude.{Result, Ok, Err}
 use Rattle.std.specs.List.{list_any}
 use Rattle.std.specs.Ordering.{is_eq, nat_cmp, ordering_then}
 use Rattle.std.specs.declared.cmp.Ordering.{Ordering}
 use Rattle.std.specs.declared.cmp.Ordering.TheVariants.{Less, Equal, Greater}
-use Rattle.std.specs.Cmp.Lexicographic.{slice_cmp, texts_ties}
 use Rattle.std.specs.BTreeSet as tree
 use Rattle.std.specs.BTreeSet.{BTreeSet}
 use Rattle.std.proofs.lemmas.List.Folds.{list_any-append}
@@ -13,9 +12,13 @@ use Rattle.fcg_views.specs.declared.view.Method.{Method}
 use Rattle.fcg_grammar.specs.Rows.{rows}
 use Rattle.fcg_grammar.proofs.RowLemmas.{with_front, rows_go_on}
 use Rattle.fcg_views.specs.declared.fault.ClassFault.{ClassFault}
-use Rattle.fcg_views.specs.Breaks.Pool.{Entries}
-use Rattle.fcg_views.specs.Breaks.Members.{Begun, method_at}
+use Rattle.fcg_views.specs.declared.fault.ClassRule.TheVariants.{DoubleMethod}
+use Rattle.fcg_views.specs.Breaks.Fault.{fault}
+use Rattle.fcg_views.specs.Breaks.Pool.{Entries, text_of}
+use Rattle.fcg_views.specs.Breaks.Members.{Begun, attributes_at, declared_at, method_at}
 use Rattle.fcg_class.specs.Members.{begun, GivesNext}
+use Rattle.fcg_class.proofs.FirstLemmas.{same_first}
+use Rattle.fcg_class.specs.Firsts.{AreFirsts}
 use Rattle.fcg_class.specs.Methods.{Signature, signature_cmp, is_signature, AreSignatures}
 
 both_equal : (a b : Ordering) → is_eq (ordering_then a b) ≡ (is_eq a && is_eq b)
@@ -23,11 +26,12 @@ both_equal Less b = refl
 both_equal Equal b = refl
 both_equal Greater b = refl
 
--- a signature compares equal to that of a method where the method has it
-pub same_signature : (key s : Signature) (m : Method) → m.name ≡ key.0.now → m.desc ≡ key.1.now → is_eq (signature_cmp key s) ≡ is_signature s.0.now s.1.now m
-same_signature key s m name desc =
-    both_equal (slice_cmp nat_cmp key.0.now s.0.now) (slice_cmp nat_cmp key.1.now s.1.now)
-    ∙ rw (name, desc, texts_ties key.0.now s.0.now, texts_ties key.1.now s.1.now) refl
+-- two signatures compare equal where the method of the first has the second's texts
+pub same_signature : (pool : Entries) (firsts : List ℕ) → AreFirsts pool firsts → (i j x y : ℕ) (m : Method) (name desc : List ℕ) → text_of pool i ≡ Ok m.name → text_of pool j ≡ Ok m.desc → text_of pool x ≡ Ok name → text_of pool y ≡ Ok desc
+    → is_eq (signature_cmp (get_or firsts i 0, get_or firsts j 0) (get_or firsts x 0, get_or firsts y 0)) ≡ is_signature name desc m
+same_signature pool firsts are i j x y m name desc at_i at_j at_x at_y =
+    both_equal (nat_cmp (get_or firsts i 0) (get_or firsts x 0)) (nat_cmp (get_or firsts j 0) (get_or firsts y 0))
+    ∙ rw (same_first pool firsts are i x m.name name at_i at_x, same_first pool firsts are j y m.desc desc at_j at_y) refl
 
 either : (a b : Bool) → cond a true b ≡ (b || (a || false))
 either true true = refl
@@ -36,12 +40,27 @@ either false true = refl
 either false false = refl
 
 -- one more method, and its signature
-pub AreSignatures-push : (old new : BTreeSet Signature) (methods : List Method) (key : Signature) (m : Method) → m.name ≡ key.0.now → m.desc ≡ key.1.now → AreSignatures old methods
-    → ((s : Signature) → tree.contains signature_cmp new s ≡ cond (is_eq (signature_cmp key s)) true (tree.contains signature_cmp old s)) → AreSignatures new (methods ++ m ∷ [])
-AreSignatures-push old new methods key m name desc are updates s =
-    updates s
-    ∙ rw (same_signature key s m name desc, are s) (either (is_signature s.0.now s.1.now m) (list_any (is_signature s.0.now s.1.now) methods))
-    ∙ sym (list_any-append (is_signature s.0.now s.1.now) methods (m ∷ []))
+pub AreSignatures-push : (pool : Entries) (firsts : List ℕ) → AreFirsts pool firsts → (old new : BTreeSet Signature) (methods : List Method) (i j : ℕ) (m : Method) → text_of pool i ≡ Ok m.name → text_of pool j ≡ Ok m.desc → AreSignatures pool firsts old methods
+    → ((s : Signature) → tree.contains signature_cmp new s ≡ cond (is_eq (signature_cmp (get_or firsts i 0, get_or firsts j 0) s)) true (tree.contains signature_cmp old s)) → AreSignatures pool firsts new (methods ++ m ∷ [])
+AreSignatures-push pool firsts are old new methods i j m at_i at_j before updates x y name desc at_x at_y =
+    updates (get_or firsts x 0, get_or firsts y 0)
+    ∙ rw (same_signature pool firsts are i j x y m name desc at_i at_j at_x at_y, before x y name desc at_x at_y) (either (is_signature name desc m) (list_any (is_signature name desc) methods))
+    ∙ sym (list_any-append (is_signature name desc) methods (m ∷ []))
+
+-- ---- a method
+
+-- an earlier one is alike
+pub method_at-doubled : (pool : Entries) (k at : ℕ) (methods : List Method) (m : Method) → declared_at pool at ≡ Ok m → list_any (is_signature m.name m.desc) methods ≡ true → method_at pool k (begun at methods) ≡ Err (fault at 0 DoubleMethod)
+unfolding method_at
+method_at-doubled pool k at methods m is doubled = rw (is, doubled) refl
+
+pub method_at-broken : (pool : Entries) (k at : ℕ) (methods : List Method) (m : Method) (f : ClassFault) → declared_at pool at ≡ Ok m → list_any (is_signature m.name m.desc) methods ≡ false → attributes_at pool (at + 6) ≡ Err f → method_at pool k (begun at methods) ≡ Err f
+unfolding method_at
+method_at-broken pool k at methods m f is fresh broken = rw (is, fresh, broken) refl
+
+pub method_at-read : (pool : Entries) (k at : ℕ) (methods : List Method) (m : Method) (after : ℕ) → declared_at pool at ≡ Ok m → list_any (is_signature m.name m.desc) methods ≡ false → attributes_at pool (at + 6) ≡ Ok after → method_at pool k (begun at methods) ≡ Ok (m, begun after (methods ++ m ∷ []))
+unfolding method_at
+method_at-read pool k at methods m after is fresh read = rw (is, fresh, read) refl
 
 -- ---- the rows of methods, one after the other
 

@@ -1,3 +1,4 @@
+pub mod Firsts
 pub mod Names
 pub mod Methods
 pub mod Members

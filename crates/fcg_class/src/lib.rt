@@ -5,6 +5,7 @@
 
 mod bundle;
 mod class;
+mod firsts;
 mod laws;
 mod members;
 mod methods;

@@ -3,7 +3,6 @@ ghost use Rattle.std.specs.Prelude.{◌≡◌, ◌≤◌, ◌+◌, ℕ, [], leng
 ghost use Rattle.fcg_grammar.specs.Reading.{seen, Gives};
 ghost use Rattle.fcg_grammar.specs.Rows.{rows, ended};
 ghost use Rattle.fcg_views.specs.Breaks.Words.{is_passed};
-ghost use Rattle.fcg_views.specs.DescSteps.{is_descriptor};
 ghost use Rattle.fcg_views.specs.Breaks.Pool.{text_of};
 ghost use Rattle.fcg_views.specs.Breaks.Members.{attribute_at, attributes_at, declared_at, method_at, methods_at};
 ghost use Rattle.fcg_class.specs.Members.{method_of, AreTextsOf, GivesNext, begun};
@@ -14,9 +13,7 @@ use crate::number::{read_part, read_u2, read_u4};
 use crate::text::{Text, find_text};
 use fcg_grammar::ReadError;
 use fcg_pool::Pool;
-use fcg_views::{
-    ClassFault, ClassRule, Method, Methods, NoMemory, Sites, fault_at, read_descriptor,
-};
+use fcg_views::{ClassFault, ClassRule, Method, Methods, NoMemory, Sites, fault_at};
 use std::alloc::Global;
 
 // Whether an attribute of this name is passed over.
@@ -76,28 +73,23 @@ struct Declared<'a> {
     desc: Text<'a>,
 }
 
-// Whether it is a method descriptor.
-fn is_descriptor(text: &[u8]) -> bool
-    ensures { result ≡ is_descriptor text.now }
-{
-    read_descriptor(text).is_ok()
-}
-
 // The flags, the name and the descriptor of the method that stands at a place.
 #[tactic(auto, unfolding(fcg_views::specs::Breaks::Members::declared_at))]
-fn find_declared<'a>(pool: &Pool<'a>, at: usize) -> Result<Declared<'a>, ClassFault>
-    requires { at ≤ length pool.now.bytes }
-    ensures value { seen method_of result ≡ declared_at pool.now at }
-    ensures named { IfOk result (AreTextsOf pool.now) }
-    ensures inside { OnOk result (at + 6 ≤ length pool.now.bytes) }
+fn find_declared<'a>(table: &mut MethodTable<'a>, at: usize) -> Result<Declared<'a>, ClassFault>
+    requires { at ≤ length table.old.pool.bytes }
+    ensures value { seen method_of result ≡ declared_at table.old.pool at }
+    ensures named { IfOk result (AreTextsOf table.old.pool) }
+    ensures inside { OnOk result (at + 6 ≤ length table.old.pool.bytes) }
+    ensures same { table.new ≡ table.old }
 {
+    let pool = table.pool();
     let flags = read_u2(pool.bytes(), at, 0)?;
     let name = find_text(pool, at + 2)?;
     if name.bytes.is_empty() {
         return Err(fault_at(at + 2, 0, ClassRule::EmptyName));
     }
     let desc = find_text(pool, at + 4)?;
-    if !is_descriptor(desc.bytes) {
+    if !table.is_descriptor(&desc) {
         return Err(fault_at(at + 4, 0, ClassRule::Descriptor));
     }
     Ok(Declared { flags, name, desc })
@@ -131,21 +123,22 @@ fn read_method<'a>(
     table: &mut MethodTable<'a>,
     at: usize,
 ) -> Result<usize, ReadError<ClassFault>>
-    requires { at ≤ length names.old.bytes }
-    ensures value { (k : ℕ) → GivesNext result table.old table.new (method_at names.old k (begun at table.old)) }
-    ensures inside { IfOk result (λ after. after ≤ length names.old.bytes) }
-    ensures same { names.new ≡ names.old }
+    requires place { at ≤ length table.old.pool.bytes }
+    requires pool { names.old ≡ table.old.pool }
+    ensures value { (k : ℕ) → GivesNext result table.old.methods table.new.methods (method_at table.old.pool k (begun at table.old.methods)) }
+    ensures inside { IfOk result (λ after. after ≤ length table.old.pool.bytes) }
+    ensures same { (names.new ≡ names.old) × (table.new.pool ≡ table.old.pool) }
 {
-    let pool = names.pool();
+    let pool = table.pool();
     let bytes = pool.bytes();
     prove!(at <= bytes.len());
-    let declared = find_declared(pool, at)?;
-    if table.has(declared.name.bytes, declared.desc.bytes) {
+    let declared = find_declared(table, at)?;
+    if table.has(&declared.name, &declared.desc) {
         return Err(ReadError::Fault(fault_at(at, 0, ClassRule::DoubleMethod)));
     }
     let after = pass_attributes(pool, at + 6)?;
     let method = make_method(alloc, names, &declared)?;
-    table.push(method, declared.name.bytes, declared.desc.bytes)?;
+    table.push(method, &declared.name, &declared.desc)?;
     Ok(after)
 }
 
@@ -161,7 +154,7 @@ fn read_method_rows(
     ensures inside { IfOk result (λ x. x.1 ≤ length names.old.bytes) }
     ensures same { names.new ≡ names.old }
 {
-    let mut table = MethodTable::new(alloc);
+    let mut table = MethodTable::new(alloc, names.pool())?;
     let mut place = at;
     for _ in 0..count {
         place = read_method(alloc, names, &mut table, place)?;
@@ -169,8 +162,8 @@ fn read_method_rows(
     Ok((Methods::from(table.into_methods()), place))
 }
 
-/// The methods whose count stands at a place, and the place after them. Takes a logarithm of their number in
-/// comparisons for each method.
+/// The methods whose count stands at a place, and the place after them. For each method it makes a logarithm of their
+/// number in comparisons of indexes; texts are compared, and descriptors read, once for each Utf8 of the pool.
 #[tactic(auto, unfolding(fcg_views::specs::Breaks::Members::methods_at))]
 pub fn read_methods(
     alloc: Global,

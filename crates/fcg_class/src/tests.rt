@@ -150,6 +150,27 @@ fn changed_bytes(rt: HostRuntime) -> Result<(), Fail> {
     Ok(())
 }
 
+// A name that stands twice in the pool: the second method is named by the other.
+#[test]
+fn equal_texts(rt: HostRuntime) -> Result<(), Fail> {
+    let mut bytes = METHODS.to_vec(rt.alloc())?;
+    bytes[16] = 0x61;
+    bytes[202] = 2;
+    let view = read_class(rt.alloc(), &bytes)
+        .ok()
+        .ok_or("it is a class file")?;
+    assert_eq!(rt; view.methods.as_slice().len(), 2);
+    bytes[204] = 8;
+    match read_class(rt.alloc(), &bytes) {
+        Err(ReadError::Fault(fault)) => {
+            assert!(rt; fault.rule == ClassRule::DoubleMethod);
+            assert_eq!(rt; fault.offset, 199);
+        }
+        _ => panic!(rt; "a method was read twice"),
+    }
+    Ok(())
+}
+
 // A bundle with the smallest class file at each of some paths.
 fn make_bundle(alloc: Global, paths: &[&[u8]]) -> Result<Vec<u8>, Fail> {
     let mut bytes = b"FCGB\x00\x01\x00\x00\x00".to_vec(alloc)?;

@@ -7,6 +7,7 @@ use Rattle.fcg_class.proofs.members.read_method_rows.Given as goal
 
 abbrev pub invariant-loop : goal.invariant-loop
 invariant-loop l =
-    (with_front l.table (rows (method_at l.names) (l.count - l.counter) l.counter (begun l.place l.table)) ≡ rows (method_at l.fn.names) l.count 0 (begun l.at []))
-    × (l.place ≤ length l.names.bytes)
+    (with_front l.table.methods (rows (method_at l.table.pool) (l.count - l.counter) l.counter (begun l.place l.table.methods)) ≡ rows (method_at l.fn.names) l.count 0 (begun l.at []))
+    × (l.place ≤ length l.table.pool.bytes)
+    × (l.table.pool ≡ l.fn.names)
     × (l.names ≡ l.fn.names)

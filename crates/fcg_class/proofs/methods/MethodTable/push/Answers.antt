@@ -1,11 +1,25 @@
-use Rattle.std.proofs.Common.{◌≡◌, List, ◌∷◌, [], ◌++◌, ap, ◌∙◌}
+use Rattle.std.proofs.Common.{◌≡◌, ℕ, List, ◌∷◌, [], ◌++◌, get_or, ap, sym, ◌∙◌}
+use Rattle.std.specs.Prelude.{Ok}
 use Rattle.fcg_views.specs.declared.view.Method.{Method}
+use Rattle.fcg_views.specs.Breaks.Pool.{text_of}
+use Rattle.fcg_class.specs.Methods.{Table, AreSignatures}
 use Rattle.fcg_class.proofs.MethodLemmas.{AreSignatures-push}
 use Rattle.fcg_class.proofs.methods.MethodTable.push.Goals as goal
+
+signatures : (c : goal.After-unwrap) → AreSignatures c.self.inside.pool.now c.self.inside.firsts.items c.insert.new.self (c.self.inside.methods.items ++ c.args.method ∷ [])
+signatures c =
+    let i = c.args.name.now.index in
+    let j = c.args.desc.now.index in
+    let at_i = ap (λ (t : Table). text_of t.pool i) c.self.view_is ∙ c.requires.name.0 ∙ ap Ok (sym c.requires.name.1) in
+    let at_j = ap (λ (t : Table). text_of t.pool j) c.self.view_is ∙ c.requires.desc.0 ∙ ap Ok (sym c.requires.desc.1) in
+    let first_i = c.first_of.ensures ∙ ap (λ (xs : List ℕ). get_or xs i 0) c.deref.ensures.value in
+    let first_j = c.first_of-2.ensures ∙ ap (λ (xs : List ℕ). get_or xs j 0) c.deref-2.ensures.value in
+    AreSignatures-push c.self.inside.pool.now c.self.inside.firsts.items c.self.invariant.firsts_are c.self.inside.signatures c.insert.new.self c.self.inside.methods.items i j c.args.method at_i at_j c.self.invariant.signatures_are
+    (rw (← first_i, ← first_j) c.in_ok-insert.ensures.updates.0)
 
 pub invariant_of-self-2 : goal.invariant_of-self-2
 invariant_of-self-2 c =
     let pushed = rw c.unwrap.ensures at c.push.ensures.items in
     let kept = c.reserve.ensures.items in
     let items : c.push.new.self.items ≡ c.self.inside.methods.items ++ c.args.method ∷ [] = pushed ∙ ap (λ (xs : List Method). xs ++ c.args.method ∷ []) kept in
-    rw items (AreSignatures-push c.self.inside.signatures c.insert.new.self c.self.inside.methods.items (c.args.name, c.args.desc) c.args.method c.requires.name c.requires.desc c.self.invariant c.in_ok-insert.ensures.updates.0)
+    rw items (record { firsts_are = c.self.invariant.firsts_are; typed_are = c.self.invariant.typed_are; signatures_are = signatures c })

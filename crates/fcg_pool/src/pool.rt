@@ -1,4 +1,4 @@
-//! The constant pool of a class file.
+//! The constant pool of a class file (JVMS 4.4).
 ghost use Rattle.std.specs.Prelude.{◌≡◌, ◌≤◌, ◌<◌, ◌∷◌, [], length, IfOk};
 ghost use Rattle.fcg_grammar.specs.Reading.{seen, Gives};
 ghost use Rattle.fcg_grammar.specs.Rows.{each};
@@ -211,7 +211,7 @@ impl<'a> Pool<'a> {
     }
 
     /// The pool whose count stands at a place, and the place after it; or its first fault in reading order. Takes one
-    /// pass over the constants, and one more over what their indexes name. It takes memory for a place an index.
+    /// pass over the constants, and one more over what their indexes name. It takes memory for one place for each index.
     #[tactic(auto, unfolding(fcg_views::specs::Breaks::Pool::pool_at))]
     pub fn read(
         alloc: Global,

@@ -7,7 +7,7 @@ use Rattle.std.proofs.lemmas.List.{take-append-drop, drop_at, length-drop, lengt
 use Rattle.std.proofs.lemmas.List.Concat.{flat_map-cons}
 use Rattle.fcg_views.specs.Breaks.Groups.{is_in, is_single, is_pair, is_triple, group_len, bad_group}
 use Rattle.fcg_views.specs.Reads.{IsIn, IsGroup, AreGroups}
-use Rattle.fcg_laws.proofs.GroupLemmas.{group_none, group_some, group_end}
+use Rattle.fcg_views.proofs.GroupLemmas.{group_none, group_some, group_end}
 
 in_true : (low high b : ℕ) → is_in low high b ≡ true → IsIn low high b
 in_true low high b e = (grind (arith, nat_tests), grind (arith, nat_tests))

@@ -1,5 +1,4 @@
 pub mod Places
-pub mod GroupLemmas
 pub mod GroupLaws
 pub mod PoolPlaces
 pub mod PoolLaws

@@ -1,4 +1,3 @@
-pub mod GroupLemmas
 pub mod ConstantLemmas
 pub mod TagLemmas
 pub mod PlaceLemmas

@@ -4,3 +4,4 @@ pub mod DescFound
 pub mod DescBreaks
 pub mod DescLaws
 pub mod Distinct
+pub mod GroupLemmas

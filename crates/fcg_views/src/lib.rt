@@ -16,9 +16,7 @@ mod view;
 
 pub use descriptor::{DescFault, DescSpan, read_descriptor};
 pub use escaping::{Place, escape, push_escaped};
-pub use fault::{
-    ClassFault, ClassRule, PoolFault, PoolRule, at_index, fault_at, pool_fault_at,
-};
+pub use fault::{ClassFault, ClassRule, PoolFault, PoolRule, at_index, fault_at, pool_fault_at};
 pub use items::{Bytes, Fields, Items, Methods, Names, Sites, Views};
 pub use memory::NoMemory;
 pub use name::Name;

@@ -26,7 +26,7 @@ use Rattle.fcg_laws.proofs.TableLaws.{none_left}
 use Rattle.fcg_laws.proofs.MethodLaws.{MeansMethod, Follow, method_found, follow_found}
 use Rattle.fcg_laws.proofs.Fresh.{distinct_found}
 
-fills : (bytes : List ℕ) (at : ℕ) (text : List ℕ) (after : ℕ) → Stands bytes at text after → Fills bytes at text after
+pub fills : (bytes : List ℕ) (at : ℕ) (text : List ℕ) (after : ℕ) → Stands bytes at text after → Fills bytes at text after
 fills bytes at text after s = record { within = s.within; ends = s.ends; same = part_is bytes at text after s }
 
 module _ (bytes : List ℕ) (fits : IsBytes bytes) where

@@ -15,3 +15,4 @@ pub mod BodyLaws
 pub mod ClassLaws
 pub mod ValidLaws
 pub mod FaultLaws
+pub mod InstructionLaws

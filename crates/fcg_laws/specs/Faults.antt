@@ -5,6 +5,7 @@ use Rattle.fcg_grammar.specs.Number.{part}
 use Rattle.fcg_grammar.specs.Spell.{u2}
 use Rattle.fcg_grammar.specs.First.{BreaksFirst}
 use Rattle.fcg_views.specs.declared.view.Method.{Method}
+use Rattle.fcg_views.specs.declared.code.CodeRule.{CodeRule}
 use Rattle.fcg_views.specs.declared.fault.PoolFault.{PoolFault}
 use Rattle.fcg_views.specs.declared.fault.ClassFault.{ClassFault}
 use Rattle.fcg_views.specs.ClassFile.{Constant, constant, unusable, slots, MethodInfo, method_info}
@@ -14,6 +15,8 @@ use Rattle.fcg_views.specs.Breaks.Number as class
 use Rattle.fcg_views.specs.Breaks.Pool as pools
 use Rattle.fcg_views.specs.Breaks.Pool.{Entries, constant_read, slot_kept}
 use Rattle.fcg_views.specs.Breaks.Members.{method_at}
+use Rattle.fcg_views.specs.Instructions.{Instruction, instruction, FitFrom}
+use Rattle.fcg_views.specs.Breaks.Instructions.{next_at}
 use Rattle.fcg_laws.specs.Tables.{unplaced}
 
 -- the bytes from a place on, up to another, are a text
@@ -34,3 +37,11 @@ pub data BrokenPool (bytes : List ℕ) (at : ℕ) (f : PoolFault) : Type 0 where
 pub data BrokenMethods (pool : Entries) (constants : List Constant) (at : ℕ) (f : ClassFault) : Type 0 where
   InCount : class.u2_at pool.bytes at 0 ≡ Err f → BrokenMethods pool constants at f
   InMethod : (count : ℕ) (before : List MethodInfo) (earlier : List Method) (place : ℕ) → Fills pool.bytes at (u2 count ++ flat_map method_info before) place → length before < count → AllZip (IsMethodOf constants) before earlier → IsDistinct is_alike earlier → method_at pool (length before) (record { at = place; earlier = earlier }) ≡ Err f → BrokenMethods pool constants at f
+
+-- the first fault of a code is that of an instruction after some that stand there
+pub record BrokenCode (code : List ℕ) (f : ℕ × CodeRule) : Type 0 where
+  pub before : List Instruction
+  pub fills : Fills code 0 (flat_map instruction before) f.0
+  pub fits : FitFrom 0 before
+  pub within : f.0 < length code
+  pub broken : next_at code f.0 ≡ Err f.1

@@ -1,9 +1,10 @@
 //! Laws of the definitions.
-ghost use Rattle.std.specs.Prelude.{◌≡◌, ℕ, List, Option, Ok, Err};
+ghost use Rattle.std.specs.Prelude.{◌≡◌, ℕ, ◌<◌, List, Option, Ok, Err, count_by, is_some, nat_lt, if◌then◌else◌};
 ghost use Rattle.fcg_grammar.specs.Rows.{each};
 ghost use Rattle.fcg_grammar.specs.Spell.{IsBytes};
 ghost use Rattle.fcg_grammar.specs.First.{BreaksFirst, AllKept};
 ghost use Rattle.fcg_views.specs.declared.view.View.{View};
+ghost use Rattle.fcg_views.specs.declared.code.CodeRule.{CodeRule};
 ghost use Rattle.fcg_views.specs.declared.fault.PoolFault.{PoolFault};
 ghost use Rattle.fcg_views.specs.declared.fault.ClassFault.{ClassFault};
 ghost use Rattle.fcg_views.specs.ClassFile.{Constant};
@@ -11,8 +12,10 @@ ghost use Rattle.fcg_views.specs.Reads.{IsPool, Reads, Verdict};
 ghost use Rattle.fcg_views.specs.Valid.{IsValid};
 ghost use Rattle.fcg_views.specs.Breaks.Pool.{Placed, Entries, slot_kept, pool_at};
 ghost use Rattle.fcg_views.specs.Breaks.Members.{methods_at};
+ghost use Rattle.fcg_views.specs.Instructions.{is_in_any, forms, form_of, starts, Instruction, IsCode};
+ghost use Rattle.fcg_views.specs.Breaks.Instructions.{starts_of};
 ghost use Rattle.fcg_laws.specs.Tables.{Holds};
-ghost use Rattle.fcg_laws.specs.Faults.{BrokenPool, BrokenMethods};
+ghost use Rattle.fcg_laws.specs.Faults.{BrokenPool, BrokenMethods, BrokenCode};
 
 /// Each string of bytes is a class file with one view, or has one first fault, and never both.
 pub fn one_verdict()
@@ -44,4 +47,23 @@ pub fn pools_hold_constants()
 /// What stands in the methods before their first fault, where the pool has these constants.
 pub fn first_fault_of_methods()
     ensures { (pool : Entries) (constants : List Constant) (at : ℕ) (f : ClassFault) → IsBytes pool.bytes → Holds pool constants → methods_at pool at ≡ Err f → BrokenMethods pool constants at f }
+{}
+
+/// The instructions of a method's code: bytes that are read are some, at the places that are read; some are read at
+/// their places; and bytes that have a first fault are none.
+pub fn one_code()
+    ensures found { (code places : List ℕ) → IsBytes code → starts_of code ≡ Ok places → (is : List Instruction) × IsCode code is × (starts 0 is ≡ places) }
+    ensures only { (code : List ℕ) (is : List Instruction) → IsCode code is → starts_of code ≡ Ok (starts 0 is) }
+    ensures broken { (code : List ℕ) (f : ℕ × CodeRule) (is : List Instruction) → starts_of code ≡ Err f → IsCode code is → ⊥ }
+{}
+
+/// What stands in a code before its first fault.
+pub fn first_fault_of_code()
+    ensures { (code : List ℕ) (f : ℕ × CodeRule) → IsBytes code → starts_of code ≡ Err f → BrokenCode code f }
+{}
+
+/// Each opcode up to 201 stands in one row of the table of forms, and no other stands in any.
+pub fn opcodes_have_one_form()
+    ensures rows { (op : ℕ) → op < 256 → count_by (λ r. is_in_any r.1 op) forms ≡ (if nat_lt op 202 then 1 else 0) }
+    ensures form { (op : ℕ) → op < 256 → is_some (form_of op) ≡ nat_lt op 202 }
 {}

@@ -1,12 +1,12 @@
 //! Laws of class files. The grammar of class files and the order in which they are read are two definitions: these
-//! laws say that both speak of the same files, with the same views, and that each view is valid. Where a pool or a
-//! table of methods is broken, they say that all before the first fault is spelled by the grammar. The crate has no
+//! laws say that both speak of the same files, with the same views, and that each view is valid. Where a pool, a
+//! table of methods or a code is broken, they say that all before the first fault is spelled by the grammar. The crate has no
 //! code that runs. It stands on the words of formats and on the views.
 #![tactic(auto)]
 
 mod laws;
 
 pub use laws::{
-    class_files_are_valid, first_fault_of_methods, first_fault_of_pool, one_verdict,
-    pool_check_is_first, pools_hold_constants,
+    class_files_are_valid, first_fault_of_code, first_fault_of_methods, first_fault_of_pool,
+    one_code, one_verdict, opcodes_have_one_form, pool_check_is_first, pools_hold_constants,
 };

@@ -1,3 +1,4 @@
 pub mod Entry
 pub mod Standing
 pub mod Seen
+pub mod Layout

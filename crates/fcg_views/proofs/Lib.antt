@@ -5,3 +5,4 @@ pub mod DescBreaks
 pub mod DescLaws
 pub mod Distinct
 pub mod GroupLemmas
+pub mod InstructionPlaces

@@ -7,3 +7,4 @@ pub mod Groups
 pub mod Pool
 pub mod Members
 pub mod Class
+pub mod Instructions

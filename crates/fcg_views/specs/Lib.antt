@@ -4,6 +4,7 @@ pub mod Descriptor
 pub mod DescSteps
 pub mod ClassFile
 pub mod Reads
+pub mod Instructions
 pub mod Breaks
 pub mod Valid
 pub mod DescBounds

@@ -1,10 +1,10 @@
 -- What it means that bytes are a class file with a view (JVMS 4). Read besides: which first fault they have instead.
-use Rattle.std.specs.Prelude.{◌≡◌, ◌≢◌, ℕ, zero, suc, ◌+◌, ◌<◌, ◌≤◌, ◌^◌, List, [], ◌∷◌, length, Bool, true, false, ◌||◌, codes, Option, Some, None, Err, ◌==◌, if◌then◌else◌}
+use Rattle.std.specs.Prelude.{◌≡◌, ◌≢◌, ℕ, zero, suc, ◌+◌, ◌<◌, ◌≤◌, ◌^◌, List, [], ◌∷◌, length, true, codes, Option, Some, None, Err}
 use Rattle.std.specs.List.{flat_map, slice_get, AllByRecursion, AllPairs, AllZip}
 use Rattle.fcg_views.specs.declared.view.View.{View}
 use Rattle.fcg_views.specs.declared.view.Method.{Method}
 use Rattle.fcg_views.specs.declared.fault.ClassFault.{ClassFault}
-use Rattle.fcg_views.specs.ClassFile.{Shape, Bytes, One, Two, shape_of, is_one_of, Constant, Utf8, Plain, Named, Pair, Handle, tag_of, slots, wants, Attribute, MethodInfo, ClassFile, spelling}
+use Rattle.fcg_views.specs.ClassFile.{Bytes, One, Two, shape_of, is_one_of, Constant, Utf8, Plain, Named, Pair, Handle, tag_of, slots, wants, Attribute, MethodInfo, ClassFile, spelling}
 use Rattle.fcg_views.specs.Descriptor.{IsDescriptor}
 use Rattle.fcg_views.specs.Breaks.Class.{class_of}
 

@@ -3,6 +3,7 @@
 //! bytes break, which views are valid, and how names are escaped. The crate stands on the words of formats alone.
 #![tactic(auto)]
 
+mod code;
 mod descriptor;
 mod escaping;
 mod fault;
@@ -14,6 +15,7 @@ mod tests;
 mod valid;
 mod view;
 
+pub use code::CodeRule;
 pub use descriptor::{DescFault, DescSpan, read_descriptor};
 pub use escaping::{Place, escape, push_escaped};
 pub use fault::{ClassFault, ClassRule, PoolFault, PoolRule, at_index, fault_at, pool_fault_at};

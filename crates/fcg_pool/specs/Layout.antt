@@ -1,0 +1,15 @@
+-- What the code says of the forms of instructions.
+use Rattle.std.specs.Prelude.{Option, Some, None}
+use Rattle.fcg_views.specs.Instructions.{Form, Fixed, Table, Lookup, Wide}
+use Rattle.fcg_pool.specs.declared.instruction.Layout.{Layout}
+use Rattle.fcg_pool.specs.declared.instruction.Layout.TheVariants as layouts
+
+abbrev pub form_in : Layout → Form
+form_in (layouts.Fixed n) = Fixed n
+form_in layouts.Table = Table
+form_in layouts.Lookup = Lookup
+form_in layouts.Wide = Wide
+
+abbrev pub form_seen : Option Layout → Option Form
+form_seen None = None
+form_seen (Some layout) = Some (form_in layout)

@@ -1,0 +1,193 @@
+//! One instruction at a time.
+ghost use Rattle.std.specs.Prelude.{◌≡◌, ◌+◌, ◌<◌, ◌≤◌, ◌^◌, length, slice_index, IfOk, IsOk};
+ghost use Rattle.fcg_grammar.specs.Reading.{seen};
+ghost use Rattle.fcg_views.specs.Instructions.{form_of, wide_of, moved_up, pad_of};
+ghost use Rattle.fcg_views.specs.Breaks.Instructions.{passed, table_at, lookup_at, wide_at, formed_at, next_at, operand_in, operand_at};
+ghost use Rattle.fcg_pool.specs.Layout.{form_seen};
+
+use fcg_grammar::{read_part, read_u1, read_u4};
+use fcg_views::CodeRule;
+
+/// An instruction of a method's code.
+#[derive(Clone, Copy, Debug, PartialEq, Eq)]
+pub struct Instruction {
+    pub opcode: u8,
+    /// The number of the two bytes after the opcode. It is 0 where the opcode has fewer, and for `tableswitch`,
+    /// `lookupswitch` and `wide`.
+    pub operand: u16,
+    /// The place of the next instruction, in bytes from the code's start; after the last one the code's length.
+    pub next: u32,
+}
+
+// What follows an opcode: so many bytes, what a tableswitch has, what a lookupswitch has, or an instruction that is made
+// wide.
+#[derive(Clone, Copy)]
+enum Layout {
+    Fixed(usize),
+    Table,
+    Lookup,
+    Wide,
+}
+
+// What follows an opcode; nothing has the opcodes from 202 on.
+fn layout_of(opcode: u8) -> Option<Layout>
+    ensures { form_seen result ≡ form_of opcode }
+{
+    match opcode {
+        0..=15 | 26..=53 | 59..=131 | 133..=152 | 172..=177 | 190..=191 | 194..=195 => {
+            Some(Layout::Fixed(0))
+        }
+        16 | 18 | 21..=25 | 54..=58 | 169 | 188 => Some(Layout::Fixed(1)),
+        17 | 19..=20 | 132 | 153..=168 | 178..=184 | 187 | 189 | 192..=193 | 198..=199 => {
+            Some(Layout::Fixed(2))
+        }
+        197 => Some(Layout::Fixed(3)),
+        185..=186 | 200..=201 => Some(Layout::Fixed(4)),
+        170 => Some(Layout::Table),
+        171 => Some(Layout::Lookup),
+        196 => Some(Layout::Wide),
+        _ => None,
+    }
+}
+
+// How many bytes follow an opcode that is made wide.
+fn wide_operands(opcode: u8) -> Option<usize>
+    ensures { result ≡ wide_of opcode }
+{
+    match opcode {
+        21..=25 | 54..=58 | 169 => Some(2),
+        132 => Some(4),
+        _ => None,
+    }
+}
+
+// A signed number, moved up so that all are from 0 on and in their order.
+fn move_up(number: u32) -> u32
+    ensures { result ≡ moved_up number }
+{
+    number.wrapping_add(0x8000_0000)
+}
+
+// The place after so many bytes.
+#[tactic(auto, unfolding(fcg_views::specs::Breaks::Instructions::passed))]
+fn pass(code: &[u8], at: usize, n: usize) -> Result<usize, CodeRule>
+    requires { at ≤ length code.now }
+    ensures value { result ≡ passed code.now at n }
+    ensures inside { IfOk result (λ next. (next ≡ at + n) × (next ≤ length code.now)) }
+{
+    read_part(code, at, n, CodeRule::CodeCut)?;
+    Ok(at + n)
+}
+
+// The place after the padding of a switch whose opcode stands at a place.
+fn pass_padding(code: &[u8], at: usize) -> Result<usize, CodeRule>
+    requires { at < length code.now }
+    ensures value { result ≡ passed code.now (at + 1) (pad_of at) }
+    ensures inside { IfOk result (λ next. (at < next) × (next ≤ length code.now)) }
+{
+    pass(code, at + 1, 3 - at % 4)
+}
+
+// The place after a tableswitch whose default stands at a place.
+#[tactic(auto, unfolding(fcg_views::specs::Breaks::Instructions::table_at))]
+fn pass_table(code: &[u8], at: usize) -> Result<usize, CodeRule>
+    requires { at ≤ length code.now }
+    ensures value { result ≡ table_at code.now at }
+    ensures inside { IfOk result (λ next. (at ≤ next) × (next ≤ length code.now)) }
+{
+    read_u4(code, at, CodeRule::CodeCut)?;
+    let low = move_up(read_u4(code, at + 4, CodeRule::CodeCut)?);
+    let high = move_up(read_u4(code, at + 8, CodeRule::CodeCut)?);
+    if high < low {
+        return Err(CodeRule::BadSwitch);
+    }
+    let offsets = (high - low) as usize + 1;
+    pass(code, at + 12, 4 * offsets)
+}
+
+// The place after a lookupswitch whose default stands at a place.
+#[tactic(auto, unfolding(fcg_views::specs::Breaks::Instructions::lookup_at))]
+fn pass_lookup(code: &[u8], at: usize) -> Result<usize, CodeRule>
+    requires { at ≤ length code.now }
+    ensures value { result ≡ lookup_at code.now at }
+    ensures inside { IfOk result (λ next. (at ≤ next) × (next ≤ length code.now)) }
+{
+    read_u4(code, at, CodeRule::CodeCut)?;
+    let count = read_u4(code, at + 4, CodeRule::CodeCut)?;
+    if count >= 0x8000_0000 {
+        return Err(CodeRule::BadSwitch);
+    }
+    pass(code, at + 8, 8 * count as usize)
+}
+
+// The place after an opcode that is made wide, and its operands.
+#[tactic(auto, unfolding(fcg_views::specs::Breaks::Instructions::wide_at))]
+fn pass_widened(code: &[u8], at: usize) -> Result<usize, CodeRule>
+    requires { at ≤ length code.now }
+    ensures value { result ≡ wide_at code.now at }
+    ensures inside { IfOk result (λ next. (at ≤ next) × (next ≤ length code.now)) }
+{
+    let opcode = read_u1(code, at, CodeRule::CodeCut)?;
+    match wide_operands(opcode) {
+        Some(n) => pass(code, at + 1, n),
+        None => Err(CodeRule::BadWide),
+    }
+}
+
+// The place after an instruction whose opcode stands at a place, by what follows the opcode.
+fn pass_layout(code: &[u8], at: usize, layout: Layout) -> Result<usize, CodeRule>
+    requires { at < length code.now }
+    ensures value { result ≡ formed_at code.now at (form_seen (Some layout)) }
+    ensures inside { IfOk result (λ next. (at < next) × (next ≤ length code.now)) }
+{
+    match layout {
+        Layout::Fixed(n) => pass(code, at + 1, n),
+        Layout::Table => {
+            let default = pass_padding(code, at)?;
+            pass_table(code, default)
+        }
+        Layout::Lookup => {
+            let default = pass_padding(code, at)?;
+            pass_lookup(code, default)
+        }
+        Layout::Wide => pass_widened(code, at + 1),
+    }
+}
+
+// The number of the two bytes after an opcode that has so many.
+#[tactic(auto, using(fcg_views::proofs::InstructionPlaces::passed_room))]
+fn operand_after(code: &[u8], at: usize, layout: Layout) -> u16
+    requires { IsOk (formed_at code.now at (form_seen (Some layout))) }
+    ensures { result ≡ operand_in code.now at (form_seen (Some layout)) }
+{
+    match layout {
+        Layout::Fixed(n) if n >= 2 => u16::from(code[at + 1]) * 256 + u16::from(code[at + 2]),
+        _ => 0,
+    }
+}
+
+/// The instruction whose opcode stands at a place of a method's code, or the first rule that it breaks. A code of a
+/// class file has at most 65,535 bytes; the call takes up to 2 ^ 32 - 1 of them, so that each place fits. It takes no
+/// memory and constant time.
+#[tactic(auto, using(fcg_views::proofs::InstructionPlaces::next_at_is))]
+pub fn next_instruction(code: &[u8], pc: u16) -> Result<Instruction, CodeRule>
+    requires within { pc < length code.now }
+    requires short { length code.now < 2 ^ 32 }
+    ensures exact { seen (λ i. i.next) result ≡ next_at code.now pc }
+    ensures opcode { IfOk result (λ i. i.opcode ≡ slice_index code.now pc) }
+    ensures operand { IfOk result (λ i. i.operand ≡ operand_at code.now pc) }
+    ensures inside { IfOk result (λ i. (pc < i.next) × (i.next ≤ length code.now)) }
+{
+    let at = usize::from(pc);
+    let opcode = code[at];
+    let Some(layout) = layout_of(opcode) else {
+        return Err(CodeRule::BadOpcode);
+    };
+    let next = pass_layout(code, at, layout)?;
+    let operand = operand_after(code, at, layout);
+    Ok(Instruction {
+        opcode,
+        operand,
+        next: next as u32,
+    })
+}

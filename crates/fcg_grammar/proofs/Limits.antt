@@ -1,7 +1,8 @@
 -- Reading up to a limit: the bytes before it stand for the file.
-use Rattle.std.proofs.Common.{◌≡◌, ℕ, ◌+◌, ◌<◌, ◌≤◌, List, ◌++◌, length, get_or, take, drop, sym, ap, ◌∙◌, append_assoc, inl, inr, arith}
+use Rattle.std.proofs.Common.{◌≡◌, ℕ, ◌+◌, ◌≤◌, List, ◌++◌, length, take, drop, sym, ap, subst, ◌∙◌, append_assoc, inl, inr, arith}
 use Rattle.std.proofs.lemmas.Bool.{cases_lt}
-use Rattle.std.proofs.lemmas.List.{append_cancel_right, take-append-drop, drop-append-le, length-take, get_or-take, get_or_past}
+use Rattle.std.proofs.lemmas.List.{append_cancel_right, take-append-drop, drop-append-le, length-take, get_or-drop, get_or-take, get_or_past}
+use Rattle.fcg_grammar.specs.Number.{part}
 use Rattle.fcg_grammar.specs.Spell.{IsBytes}
 use Rattle.fcg_grammar.proofs.Standing.{Stands}
 
@@ -11,6 +12,13 @@ IsBytes-take n bytes h i =
       | inl lt ↦ rw (get_or-take n bytes i 0 lt) (h i)
       | inr le ↦ rw (get_or_past (take n bytes) i 0 (omega (arith, length-take n bytes))) (omega arith)
     ]
+
+IsBytes-drop : (n : ℕ) (bytes : List ℕ) → IsBytes bytes → IsBytes (drop n bytes)
+IsBytes-drop n bytes h i = rw get_or-drop (h (n + i))
+
+-- a part of a file
+pub IsBytes-part : (bytes : List ℕ) (at n : ℕ) (text : List ℕ) → IsBytes bytes → part bytes at n ≡ text → IsBytes text
+IsBytes-part bytes at n text h e = subst (λ (l : List ℕ). IsBytes l) e (IsBytes-take n (drop at bytes) (IsBytes-drop at bytes h))
 
 drop_split : (e a : ℕ) (bytes : List ℕ) → a ≤ e → e ≤ length bytes → drop a bytes ≡ drop a (take e bytes) ++ drop e bytes
 drop_split e a bytes le len = ap (drop a) (sym (take-append-drop e bytes)) ∙ drop-append-le a (take e bytes) (drop e bytes) (omega (arith, length-take e bytes))

@@ -1,8 +1,8 @@
 -- Strings of bytes that stand in a file.
-use Rattle.std.proofs.Common.{◌≡◌, ℕ, zero, suc, ◌+◌, ◌*◌, ◌^◌, ◌<◌, ◌≤◌, Bool, true, false, cond, ltb, List, [], ◌∷◌, ◌++◌, length, get_or, take, drop, refl, sym, ap, subst, ◌∙◌, append_assoc, arith}
+use Rattle.std.proofs.Common.{◌≡◌, ℕ, zero, suc, ◌+◌, ◌*◌, ◌^◌, ◌<◌, ◌≤◌, Bool, true, false, cond, eqb, ltb, List, [], ◌∷◌, ◌++◌, length, get_or, take, drop, refl, sym, ap, subst, ◌∙◌, append_assoc, arith}
 use Rattle.std.specs.Prelude.{Result, Ok, Err}
-use Rattle.std.specs.Int.{w16, w32, from_be_bytes, to_be_bytes}
 use Rattle.std.proofs.lemmas.Bool.{ltb-false, le-ltb}
+use Rattle.std.proofs.lemmas.Bool.Decides.{nat_tests}
 use Rattle.std.proofs.Math.ListN.{drop_of_length-le}
 use Rattle.std.proofs.lemmas.List.{append-nil, drop_at, take_at, drop-drop, drop_more, get_or-drop, take-append-drop, length-append, length-take, length-drop}
 use Rattle.std.proofs.lemmas.Nat.{be_bytes_2, be_bytes_4, from_be_bytes-to_be_bytes_2, from_be_bytes-to_be_bytes_4}
@@ -189,3 +189,7 @@ is_whole bytes text e = record {
 -- the same place by another name
 pub Stands-to : {bytes : List ℕ} {a : ℕ} {x : List ℕ} {b : ℕ} (c : ℕ) → b ≡ c → Stands bytes a x b → Stands bytes a x c
 Stands-to {bytes} {a} {x} {b} c e s = subst (λ (n : ℕ). Stands bytes a x n) e s
+
+-- what ends a file is at its end
+pub end_is : (bytes : List ℕ) (at : ℕ) → Stands bytes at [] (length bytes) → eqb (length bytes) at ≡ true
+end_is bytes at s = let e = s.ends in grind (arith, nat_tests)

@@ -1,6 +1,6 @@
--- Attributes that are passed over: what is read is spelled so, and what is spelled so is read.
+-- Attributes: what is read is spelled so, and what is spelled so is read.
 use Rattle.std.proofs.Common.{◌≡◌, ℕ, ◌+◌, ◌^◌, ◌<◌, ◌≤◌, List, [], ◌∷◌, ◌++◌, length, refl, sym, ap, subst, arith}
-use Rattle.std.specs.Prelude.{Ok}
+use Rattle.std.specs.Prelude.{◌≢◌, codes, Ok}
 use Rattle.std.specs.List.{flat_map, AllByRecursion, AllZip}
 use Rattle.std.proofs.lemmas.List.{append-nil}
 use Rattle.fcg_grammar.specs.Reading.{unless_broken}
@@ -11,19 +11,20 @@ use Rattle.fcg_grammar.proofs.Standing.{Stands, Stands-then, Stands-to, ok_is}
 use Rattle.fcg_grammar.proofs.RowLaws.{FoundRow, ReadRow, rows_found, rows_only}
 use Rattle.fcg_views.specs.declared.fault.ClassRule.TheVariants.{NotBuilt}
 use Rattle.fcg_views.specs.ClassFile.{Constant, Attribute, attribute}
-use Rattle.fcg_views.specs.Reads.{NamesUtf8, IsPassed, ArePassed}
-use Rattle.fcg_views.specs.Breaks.Words.{is_passed}
+use Rattle.fcg_views.specs.Constants.{NamesUtf8}
+use Rattle.fcg_views.specs.Reads.{IsNamed, IsPassed, ArePassed}
+use Rattle.fcg_views.specs.Breaks.Words.{is_known}
 use Rattle.fcg_views.specs.Breaks.Fault.{fault}
 use Rattle.fcg_views.specs.Breaks.Number.{u2_at, u4_at, part_at}
 use Rattle.fcg_views.specs.Breaks.Pool.{Entries, text_of}
-use Rattle.fcg_views.specs.Breaks.Members.{text_at, attribute_at, attributes_at}
+use Rattle.fcg_views.specs.Breaks.Attributes.{text_at, named_at, content_at, attribute_at, attributes_at}
 use Rattle.fcg_laws.proofs.Places.{u2_found, u2_only, u4_found, u4_only, part_found, part_only, closed, opened}
 use Rattle.fcg_laws.specs.Tables.{Holds}
-use Rattle.fcg_laws.proofs.WordLaws.{passed_found, passed_only}
+use Rattle.fcg_laws.proofs.WordLaws.{known_found, known_only}
 use Rattle.fcg_laws.proofs.NameLaws.{text_found, text_only, at_ok}
 
 -- what holds of each row
-zip_left : {C X : Type 0} (R : C → X → Type 0) (P : C → Type 0) → ((c : C) (x : X) → R c x → P c) → (cs : List C) (xs : List X) → AllZip R cs xs → AllByRecursion P cs
+pub zip_left : {C X : Type 0} (R : C → X → Type 0) (P : C → Type 0) → ((c : C) (x : X) → R c x → P c) → (cs : List C) (xs : List X) → AllZip R cs xs → AllByRecursion P cs
 zip_left R P h [] xs z = tt
 zip_left R P h (c ∷ cs) [] z = absurd z
 zip_left R P h (c ∷ cs) (x ∷ xs) z = (h c x z.0, zip_left R P h cs xs z.1)
@@ -52,39 +53,99 @@ module _ (pool : Entries) (fits : IsBytes pool.bytes) (constants : List Constant
       let t = text_only pool constants holds index text named in
       (rw (n.0, t) refl, n.1)
 
+  -- the name and the length of an attribute, and its content
+  pub record FoundName (at : ℕ) (name : List ℕ) : Type 0 where
+    pub index : ℕ
+    pub few : index < 2 ^ 16
+    pub stands : Stands pool.bytes at (u2 index) (at + 2)
+    pub named : NamesUtf8 constants index name
+    pub no_methods : name ≢ codes "BootstrapMethods"
+
+  pub named_found : (at : ℕ) (name : List ℕ) → named_at pool at ≡ Ok name → FoundName at name
+  unfolding named_at
+  named_found at name e =
+      let a = bind_ok (text_at pool at) _ name e in
+      let b = bind_ok (unless_broken (is_known a.0) (fault at 0 NotBuilt)) _ name a.2 in
+      let text = text_at_found at a.0 a.1 in
+      subst (λ (y : List ℕ). FoundName at y) (ok_is a.0 name b.2) (record { index = text.index; few = text.few; stands = text.stands; named = text.named; no_methods = known_found a.0 (kept_ok _ _ b.0 b.1) })
+
+  pub named_only : (at index : ℕ) (name rest : List ℕ) (after : ℕ) → index < 2 ^ 16 → NamesUtf8 constants index name → name ≢ codes "BootstrapMethods" → Stands pool.bytes at (u2 index ++ rest) after → (named_at pool at ≡ Ok name) × Stands pool.bytes (at + 2) rest after
+  unfolding named_at
+  named_only at index name rest after few named no_methods s =
+      let n = text_at_only at index name rest after few named s in
+      (rw (n.0, known_only name no_methods) refl, n.1)
+
+  pub record FoundContent (at after : ℕ) : Type 0 where
+    pub content : List ℕ
+    pub few : length content < 2 ^ 32
+    pub stands : Stands pool.bytes (at + 2) (u4 (length content) ++ content) after
+    pub here : Stands pool.bytes (at + 6) content after
+
+  pub content_found : (at after : ℕ) → content_at pool at ≡ Ok after → FoundContent at after
+  unfolding content_at
+  content_found at after e =
+      let a = bind_ok (u4_at pool.bytes (at + 2) 0) _ after e in
+      let b = bind_ok (part_at pool.bytes (at + 6) a.0 0) _ after a.2 in
+      let n = u4_found pool.bytes (at + 2) 0 a.0 fits a.1 in
+      let content = part_found pool.bytes (at + 6) a.0 0 b.0 b.1 in
+      let s0 = Stands-to (at + 6) (six at) n.0 in
+      let s1 = subst (λ (m : ℕ). Stands pool.bytes (at + 2) (u4 m ++ b.0) (at + 6 + a.0)) (sym content.1) (Stands-then s0 content.0) in
+      subst (λ (y : ℕ). FoundContent at y) (ok_is _ after b.2) (record { content = b.0; few = omega (arith, content.1, n.1); stands = s1; here = content.0 })
+
+  pub content_only : (at : ℕ) (content rest : List ℕ) (after : ℕ) → length content < 2 ^ 32 → Stands pool.bytes (at + 2) (u4 (length content) ++ (content ++ rest)) after
+      → (content_at pool at ≡ Ok (at + 6 + length content)) × Stands pool.bytes (at + 6) (content ++ rest) after
+  unfolding content_at
+  content_only at content rest after few s =
+      let m = u4_only pool.bytes (at + 2) 0 (length content) (content ++ rest) after few s in
+      let s6 = subst (λ (p : ℕ). Stands pool.bytes p (content ++ rest) after) (six at) m.1 in
+      let c = part_only pool.bytes (at + 6) 0 content rest after s6 in
+      (rw (m.0, c.0) refl, s6)
+
+  -- an attribute of a name
+  pub record FoundAttribute (at : ℕ) (name : List ℕ) (after : ℕ) : Type 0 where
+    pub row : Attribute
+    pub stands : Stands pool.bytes at (attribute row) after
+    pub named : IsNamed constants row name
+    pub here : Stands pool.bytes (at + 6) row.content after
+
+  pub whole_attribute : (at after : ℕ) (name : List ℕ) → FoundName at name → FoundContent at after → FoundAttribute at name after
+  whole_attribute at after name n c = record {
+    row = record { name = n.index; content = c.content };
+    stands = closed (u2 n.index ++ u4 (length c.content)) c.content (Stands-then n.stands c.stands);
+    named = record { index = n.few; named = n.named; no_methods = n.no_methods; fits = c.few };
+    here = c.here;
+  }
+
+  pub record ReadAttribute (at : ℕ) (a : Attribute) (name rest : List ℕ) (after : ℕ) : Type 0 where
+    pub name_is : named_at pool at ≡ Ok name
+    pub content_is : content_at pool at ≡ Ok (at + length (attribute a))
+    pub content_stands : Stands pool.bytes (at + 6) (a.content ++ rest) after
+    pub ends : at + 6 + length a.content ≡ at + length (attribute a)
+
+  pub attribute_read : (at : ℕ) (a : Attribute) (name rest : List ℕ) (after : ℕ) → IsNamed constants a name → Stands pool.bytes at (attribute a ++ rest) after → ReadAttribute at a name rest after
+  attribute_read at a name rest after is s =
+      let here = opened (u2 a.name ++ u4 (length a.content)) a.content rest s in
+      let n = named_only at a.name name (u4 (length a.content) ++ (a.content ++ rest)) after is.index is.named is.no_methods here in
+      let c = content_only at a.content rest after is.fits n.1 in
+      let ends : at + 6 + length a.content ≡ at + length (attribute a) = omega (arith, ap length (append-nil a.content)) in
+      record { name_is = n.0; content_is = subst (λ (end : ℕ). content_at pool at ≡ Ok end) ends c.0; content_stands = c.1; ends = ends }
+
   abbrev Passes : Attribute → Unit {0} → Type 0
   Passes a u = IsPassed constants a
 
   attribute_found : (k at : ℕ) (x : Unit {0} × ℕ) → at ≤ length pool.bytes → attribute_at pool k at ≡ Ok x → FoundRow pool.bytes attribute Passes (attribute_at pool) at x.0 x.1
   unfolding attribute_at
   attribute_found k at x le e =
-      let a = bind_ok (text_at pool at) _ x e in
-      let b = bind_ok (unless_broken (is_passed a.0) (fault at 0 NotBuilt)) _ x a.2 in
-      let c = bind_ok (u4_at pool.bytes (at + 2) 0) _ x b.2 in
-      let d = bind_ok (part_at pool.bytes (at + 6) c.0 0) _ x c.2 in
-      let word = passed_found a.0 (kept_ok _ _ b.0 b.1) in
-      let name = text_at_found at a.0 a.1 in
-      let n = u4_found pool.bytes (at + 2) 0 c.0 fits c.1 in
-      let content = part_found pool.bytes (at + 6) c.0 0 d.0 d.1 in
-      let s0 = Stands-to (at + 6) (six at) n.0 in
-      let s1 = subst (λ (m : ℕ). Stands pool.bytes (at + 2) (u4 m ++ d.0) (at + 6 + c.0)) (sym content.1) (Stands-then s0 content.0) in
-      let whole = closed (u2 name.index ++ u4 (length d.0)) d.0 (Stands-then name.stands s1) in
-      subst (λ (y : Unit {0} × ℕ). FoundRow pool.bytes attribute Passes (attribute_at pool) at y.0 y.1) (ok_is _ x d.2) (record {
-        row = record { name = name.index; content = d.0 };
-        stands = whole;
-        meant = record { name = a.0; index = name.few; named = name.named; no_code = word.0; no_methods = word.1; fits = omega (arith, content.1, n.1) };
-      })
+      let a = bind_ok (named_at pool at) _ x e in
+      let b = bind_ok (content_at pool at) _ x a.2 in
+      let f = whole_attribute at b.0 a.0 (named_found at a.0 a.1) (content_found at b.0 b.1) in
+      subst (λ (y : Unit {0} × ℕ). FoundRow pool.bytes attribute Passes (attribute_at pool) at y.0 y.1) (ok_is _ x b.2) (record { row = f.row; stands = f.stands; meant = (a.0, f.named) })
 
   attribute_only : (k at : ℕ) (a : Attribute) (rest : List ℕ) (after : ℕ) → IsPassed constants a → Stands pool.bytes at (attribute a ++ rest) after → ReadRow pool.bytes attribute Passes (attribute_at pool) k at a
   unfolding attribute_at
   attribute_only k at a rest after is s =
-      let here = opened (u2 a.name ++ u4 (length a.content)) a.content rest s in
-      let n = text_at_only at a.name is.name (u4 (length a.content) ++ (a.content ++ rest)) after is.index is.named here in
-      let m = u4_only pool.bytes (at + 2) 0 (length a.content) (a.content ++ rest) after is.fits n.1 in
-      let s6 = subst (λ (p : ℕ). Stands pool.bytes p (a.content ++ rest) after) (six at) m.1 in
-      let c = part_only pool.bytes (at + 6) 0 a.content rest after s6 in
-      let ends : at + 6 + length a.content ≡ at + length (attribute a) = omega (arith, ap length (append-nil a.content)) in
-      record { value = tt; read_is = rw (n.0, passed_only is.name is.no_code is.no_methods, m.0, c.0, ends) refl; meant = is }
+      let r = attribute_read at a is.0 rest after is.1 s in
+      record { value = tt; read_is = rw (r.name_is, r.content_is) refl; meant = is }
 
   pub record FoundAttributes (at after : ℕ) : Type 0 where
     pub table : List Attribute

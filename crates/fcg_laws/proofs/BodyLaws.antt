@@ -1,24 +1,25 @@
 -- What stands after the pool: what is read is spelled so, and what is spelled so is read.
-use Rattle.std.proofs.Common.{◌≡◌, ℕ, ◌+◌, ◌^◌, ◌<◌, true, eqb, ltb, List, [], ◌++◌, length, Option, refl, sym, ap, subst, ◌∙◌, arith}
+use Rattle.std.proofs.Common.{◌≡◌, ℕ, ◌+◌, ◌^◌, ◌<◌, ◌≤◌, true, eqb, ltb, List, [], ◌++◌, length, Option, refl, sym, ap, subst, ◌∙◌, arith}
 use Rattle.std.specs.Prelude.{Ok}
 use Rattle.std.specs.List.{flat_map, AllZip, IsDistinct}
 use Rattle.std.proofs.lemmas.Bool.{ltb-true, lt-ltb, eqb-true}
-use Rattle.std.proofs.lemmas.Bool.Decides.{nat_tests}
 use Rattle.fcg_grammar.specs.Reading.{unless_broken}
 use Rattle.fcg_grammar.specs.Spell.{IsBytes, u2}
 use Rattle.fcg_grammar.proofs.LawLemmas.{bind_ok, kept_ok}
-use Rattle.fcg_grammar.proofs.Standing.{Stands, Stands-then, Stands-to, ok_is}
+use Rattle.fcg_grammar.proofs.Standing.{Stands, Stands-then, Stands-to, ok_is, end_is}
 use Rattle.fcg_views.specs.declared.view.View.{View}
 use Rattle.fcg_views.specs.declared.view.Field.{Field}
 use Rattle.fcg_views.specs.declared.view.Method.{Method}
 use Rattle.fcg_views.specs.declared.fault.ClassRule.TheVariants.{Trailing, NotBuilt}
 use Rattle.fcg_views.specs.ClassFile.{Constant, Attribute, attribute, MethodInfo, method_info}
 use Rattle.fcg_views.specs.Reads.{NamesType, NamesSuper, IsMethodOf, ArePassed}
+use Rattle.fcg_views.specs.Valid.{site_count}
 use Rattle.fcg_views.specs.Breaks.Words.{is_alike}
 use Rattle.fcg_views.specs.Breaks.Fault.{fault}
 use Rattle.fcg_views.specs.Breaks.Number.{u2_at}
 use Rattle.fcg_views.specs.Breaks.Pool.{Entries}
-use Rattle.fcg_views.specs.Breaks.Members.{attributes_at, methods_at}
+use Rattle.fcg_views.specs.Breaks.Attributes.{attributes_at}
+use Rattle.fcg_views.specs.Breaks.Members.{methods_at}
 use Rattle.fcg_views.specs.Breaks.Class.{type_at, super_at, interfaces_at, flags_at, fields_at, members_at, body_at}
 use Rattle.fcg_laws.proofs.Places.{u2_found, u2_only, closed}
 use Rattle.fcg_laws.specs.Tables.{Holds}
@@ -52,10 +53,6 @@ made flags name super interfaces fields methods = record { name = name; flags = 
 made_is : (v : View) (flags : ℕ) → v.flags ≡ flags → v.fields ≡ [] → made flags v.name v.superclass v.interfaces [] v.methods ≡ v
 made_is v flags f none = ap (λ (x : ℕ). made x v.name v.superclass v.interfaces [] v.methods) (sym f) ∙ ap (λ (x : List Field). made v.flags v.name v.superclass v.interfaces x v.methods) (sym none)
 
--- the text ends with the file
-is_end : (bytes : List ℕ) (at : ℕ) → Stands bytes at [] (length bytes) → eqb (length bytes) at ≡ true
-is_end bytes at s = let e = s.ends in grind (arith, nat_tests)
-
 -- what the file keeps after its pool
 pub record IsBody (cs : List Constant) (flags this super : ℕ) (interfaces : List ℕ) (methods : List MethodInfo) (attributes : List Attribute) (v : View) : Type 0 where
   pub type : flags < 0x8000
@@ -68,6 +65,7 @@ pub record IsBody (cs : List Constant) (flags this super : ℕ) (interfaces : Li
   pub few_methods : length methods < 2 ^ 16
   pub methods_are : AllZip (IsMethodOf cs) methods v.methods
   pub distinct : IsDistinct is_alike v.methods
+  pub few_sites : site_count v.methods ≤ 1000000
   pub passed : ArePassed cs attributes
 
 module _ (pool : Entries) (fits : IsBytes pool.bytes) (constants : List Constant) (holds : Holds pool constants) where
@@ -106,6 +104,7 @@ module _ (pool : Entries) (fits : IsBytes pool.bytes) (constants : List Constant
     few : length methods < 2 ^ 16
     methods_are : AllZip (IsMethodOf constants) methods ms
     distinct : IsDistinct is_alike ms
+    few_sites : site_count ms ≤ 1000000
     passed : ArePassed constants attributes
 
   members_found : (at : ℕ) (ms : List Method) → members_at pool at ≡ Ok ms → FoundMembers at ms
@@ -127,19 +126,20 @@ module _ (pool : Entries) (fits : IsBytes pool.bytes) (constants : List Constant
         few = methods.few;
         methods_are = methods.methods;
         distinct = methods.distinct;
+        few_sites = methods.few_sites;
         passed = attributes.passed;
       })
 
-  members_only : (at : ℕ) (methods : List MethodInfo) (attributes : List Attribute) (ms : List Method) → length methods < 2 ^ 16 → AllZip (IsMethodOf constants) methods ms → IsDistinct is_alike ms → ArePassed constants attributes
+  members_only : (at : ℕ) (methods : List MethodInfo) (attributes : List Attribute) (ms : List Method) → length methods < 2 ^ 16 → AllZip (IsMethodOf constants) methods ms → IsDistinct is_alike ms → site_count ms ≤ 1000000 → ArePassed constants attributes
       → Stands pool.bytes at (members_text methods attributes) (length pool.bytes) → members_at pool at ≡ Ok ms
   unfolding members_at
-  members_only at methods attributes ms few methods_are distinct passed s =
+  members_only at methods attributes ms few methods_are distinct few_sites passed s =
       let end : ℕ = length pool.bytes in
       let last : List ℕ = u2 (length attributes) ++ (flat_map attribute attributes ++ []) in
       let a = fields_only at (u2 (length methods) ++ (flat_map method_info methods ++ last)) end s in
-      let b = methods_only pool fits constants holds (at + 2) methods ms last end few methods_are distinct a.1 in
+      let b = methods_only pool fits constants holds (at + 2) methods ms last end few methods_are distinct few_sites a.1 in
       let c = attributes_only pool fits constants holds b.end attributes [] end passed b.stands in
-      let ended = is_end pool.bytes c.end c.stands in
+      let ended = end_is pool.bytes c.end c.stands in
       rw (a.0, b.read_is, c.read_is, ended) refl
 
   pub record FoundBody (at : ℕ) (v : View) : Type 0 where
@@ -186,6 +186,7 @@ module _ (pool : Entries) (fits : IsBytes pool.bytes) (constants : List Constant
           few_methods = members.few;
           methods_are = members.methods_are;
           distinct = members.distinct;
+          few_sites = members.few_sites;
           passed = members.passed;
         };
       })
@@ -202,5 +203,5 @@ module _ (pool : Entries) (fits : IsBytes pool.bytes) (constants : List Constant
       let c = super_only pool fits constants holds (at + 4) super v.superclass (u2 (length interfaces) ++ (flat_map u2 interfaces ++ members)) end is.super_is s4 in
       let s6 = subst (λ (n : ℕ). Stands pool.bytes n (u2 (length interfaces) ++ (flat_map u2 interfaces ++ members)) end) (six at) c.1 in
       let d = interfaces_only pool fits constants holds (at + 6) interfaces v.interfaces members end is.few_interfaces is.interfaces_are s6 in
-      let f = members_only d.end methods attributes v.methods is.few_methods is.methods_are is.distinct is.passed d.stands in
+      let f = members_only d.end methods attributes v.methods is.few_methods is.methods_are is.distinct is.few_sites is.passed d.stands in
       rw (a.0, b.0, c.0, d.read_is, f) (ap (λ (x : View). Ok x) (made_is v flags is.flags_are is.fields))

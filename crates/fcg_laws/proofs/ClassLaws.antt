@@ -3,7 +3,7 @@ use Rattle.std.proofs.Common.{◌≡◌, ℕ, zero, suc, ◌+◌, ◌^◌, ◌�
 use Rattle.std.specs.Prelude.{Result, Ok, Err, IfOk}
 use Rattle.std.specs.List.{flat_map}
 use Rattle.std.proofs.lemmas.List.{length-map}
-use Rattle.std.proofs.lemmas.Bool.{eqb-true, and_parts}
+use Rattle.std.proofs.lemmas.Bool.{eqb-true, leb-true, and_parts}
 use Rattle.std.proofs.lemmas.Bool.Decides.{nat_tests}
 use Rattle.fcg_grammar.specs.declared.error.ReadError.{ReadError}
 use Rattle.fcg_grammar.specs.Reading.{unless_broken, Gives}
@@ -15,7 +15,8 @@ use Rattle.fcg_views.specs.declared.fault.PoolFault.{PoolFault}
 use Rattle.fcg_views.specs.declared.fault.ClassFault.{ClassFault}
 use Rattle.fcg_views.specs.declared.fault.ClassRule.TheVariants.{Magic}
 use Rattle.fcg_views.specs.ClassFile.{Constant, Named, constant, slots, ClassFile, spelling}
-use Rattle.fcg_views.specs.Reads.{constant_at, IsViewOf, Reads, Verdict, IsRead, IsBroken}
+use Rattle.fcg_views.specs.Constants.{constant_at}
+use Rattle.fcg_views.specs.Reads.{IsViewOf, Reads, Verdict, IsRead, IsBroken}
 use Rattle.fcg_views.specs.Breaks.Fault.{fault, in_pool}
 use Rattle.fcg_views.specs.Breaks.Number.{u2_at, u4_at}
 use Rattle.fcg_views.specs.Breaks.Pool.{Entries, pool_at}
@@ -25,9 +26,6 @@ use Rattle.fcg_laws.specs.Tables.{Holds}
 use Rattle.fcg_laws.proofs.WordLaws.{methods_differ, methods_distinct}
 use Rattle.fcg_laws.proofs.TableLaws.{FoundPool, pool_found, pool_only}
 use Rattle.fcg_laws.proofs.BodyLaws.{body_text, IsBody, FoundBody, body_found, body_only}
-
-at_least : (m n : ℕ) → leb m n ≡ true → m ≤ n
-at_least m n e = grind (arith, nat_tests)
 
 record FoundHeader (bytes : List ℕ) : Type 0 where
   minor : ℕ
@@ -49,7 +47,7 @@ header_found bytes fits u e =
     let minor = u2_found bytes 4 0 c.0 fits c.1 in
     let major = u2_found bytes 6 0 d.0 fits d.1 in
     let version = and_parts (leb 45 d.0) (leb d.0 65) (kept_ok _ _ u d.2) in
-    record { minor = c.0; major = d.0; stands = Stands-then s0 (Stands-then minor.0 major.0); few = minor.1; from = at_least 45 d.0 version.0; to = at_least d.0 65 version.1 }
+    record { minor = c.0; major = d.0; stands = Stands-then s0 (Stands-then minor.0 major.0); few = minor.1; from = leb-true _ _ version.0; to = leb-true _ _ version.1 }
 
 header_only : (bytes : List ℕ) (minor major : ℕ) (rest : List ℕ) (after : ℕ) → minor < 2 ^ 16 → 45 ≤ major → major ≤ 65 → Stands bytes 0 (u4 0xcafebabe ++ (u2 minor ++ (u2 major ++ rest))) after → (header_kept bytes ≡ Ok tt) × Stands bytes 8 rest after
 unfolding header_kept
@@ -98,6 +96,7 @@ assembled bytes pool fits after v header p found =
         few_methods = body.few_methods;
         methods = body.methods_are;
         distinct = methods_differ v.methods body.distinct;
+        few_sites = body.few_sites;
         attributes = body.passed;
       };
     }
@@ -131,6 +130,7 @@ body_of c v is = record {
   few_methods = is.few_methods;
   methods_are = is.methods;
   distinct = methods_distinct v.methods is.distinct;
+  few_sites = is.few_sites;
   passed = is.attributes;
 }
 

@@ -23,7 +23,7 @@ use Rattle.fcg_laws.proofs.Places.{u2_found}
 use Rattle.fcg_laws.proofs.PoolPlaces as pool_places
 use Rattle.fcg_laws.proofs.SlotLaws.{FoundSlots, slots_found}
 use Rattle.fcg_laws.proofs.TableLaws.{none_left}
-use Rattle.fcg_laws.proofs.MethodLaws.{MeansMethod, Follow, method_found, follow_found}
+use Rattle.fcg_laws.proofs.MethodLaws.{MeansMethod, HasFew, Follow, method_found, follow_found}
 use Rattle.fcg_laws.proofs.Fresh.{distinct_found}
 
 pub fills : (bytes : List ℕ) (at : ℕ) (text : List ℕ) (after : ℕ) → Stands bytes at text after → Fills bytes at text after
@@ -97,7 +97,7 @@ module _ (pool : Entries) (fits : IsBytes pool.bytes) (constants : List Constant
 
   in_method : (at count : ℕ) (f : ClassFault) → Stands pool.bytes at (u2 count) (at + 2) → BrokenRow (method_at pool) count 0 (begun_at (at + 2)) f → BrokenMethods pool constants at f
   in_method at count f s r =
-      let found = states.rows_found pool.bytes place method_info (MeansMethod constants) (method_at pool) (method_found pool fits constants holds) (length r.front) 0 (begun_at (at + 2)) (r.front, r.at) s.within r.read_is in
+      let found = states.rows_kept pool.bytes place method_info (MeansMethod constants) (method_at pool) (HasFew pool fits constants holds) (method_found pool fits constants holds) (length r.front) 0 (begun_at (at + 2)) (r.front, r.at) s.within (omega arith) r.read_is in
       let along = follow_found pool fits constants holds (begun_at (at + 2)) found.table r.front r.at found.meant in
       let earlier : r.front ≡ r.at.earlier = kept_earlier (begun_at (at + 2)) found.table r.front r.at found.meant in
       let here : Begun = record { at = r.at.at; earlier = r.front } in

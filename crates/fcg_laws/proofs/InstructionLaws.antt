@@ -154,7 +154,7 @@ module _ (code : List ℕ) where
       let a = bind_ok (u1_at CodeCut code at) _ x e in
       formed_found fits at a.0 (form_of a.0) x refl (u1_found CodeCut code at a.0 a.1) a.2
 
-some_byte : (i : Instruction) → 0 < length (instruction i)
+pub some_byte : (i : Instruction) → 0 < length (instruction i)
 some_byte (Plain op operands) = omega arith
 some_byte (TableSwitch op pad default low high offsets) = omega arith
 some_byte (LookupSwitch op pad default count pairs) = omega arith
@@ -236,7 +236,7 @@ module _ (code : List ℕ) where
       rw (first.0, fits.0, body, ends) refl
 
 -- ---- the whole code
-stands_first : (code : List ℕ) (at next end : ℕ) (i : Instruction) (is : List Instruction) → Stands code at (instruction i) next → Stands code next (flat_map instruction is) end → Stands code at (flat_map instruction (i ∷ is)) end
+pub stands_first : (code : List ℕ) (at next end : ℕ) (i : Instruction) (is : List Instruction) → Stands code at (instruction i) next → Stands code next (flat_map instruction is) end → Stands code at (flat_map instruction (i ∷ is)) end
 stands_first code at next end i is s t = rw flat_map-cons (Stands-then s t)
 
 module _ (code : List ℕ) where
@@ -274,10 +274,10 @@ module _ (code : List ℕ) where
             )
       ]
 
-  not_end : (at n m len : ℕ) → 0 < n → len ≡ at + n + m → eqb len at ≡ false
+  pub not_end : (at n m len : ℕ) → 0 < n → len ≡ at + n + m → eqb len at ≡ false
   not_end at n m len some e = grind (arith, nat_tests)
 
-  further : (len fuel at n : ℕ) → len < suc fuel + at → 0 < n → len < fuel + (at + n)
+  pub further : (len fuel at n : ℕ) → len < suc fuel + at → 0 < n → len < fuel + (at + n)
   further len fuel at n lt some = omega arith
 
   only_from : (fuel at : ℕ) (is : List Instruction) → length code < fuel + at → FitFrom at is → Stands code at (flat_map instruction is) (length code) → starts_at code fuel at ≡ Ok (starts at is)

@@ -9,7 +9,8 @@ use Rattle.fcg_grammar.specs.Rows.{each}
 use Rattle.fcg_grammar.proofs.LawLemmas.{bind_ok, kept_ok}
 use Rattle.fcg_views.specs.declared.fault.PoolRule.TheVariants.{BadIndex, WrongKind}
 use Rattle.fcg_views.specs.ClassFile.{is_one_of, Constant, Utf8, Plain, Named, Pair, Handle, tag_of, is_wide, unusable, slots, wants, handle_tags}
-use Rattle.fcg_views.specs.Reads.{joined, HasTag}
+use Rattle.fcg_views.specs.Constants.{joined}
+use Rattle.fcg_views.specs.Reads.{HasTag}
 use Rattle.fcg_views.specs.Breaks.Pool.{Placed, Entries, constant_of, want_kept, wants_kept, is_kind, has_room, constant_kept, slot_kept}
 use Rattle.fcg_laws.specs.Tables.{unplaced, Holds}
 use Rattle.fcg_laws.proofs.SlotLaws.{tag_ok}

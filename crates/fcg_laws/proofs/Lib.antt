@@ -16,3 +16,6 @@ pub mod ClassLaws
 pub mod ValidLaws
 pub mod FaultLaws
 pub mod InstructionLaws
+pub mod SiteLaws
+pub mod CodeLaws
+pub mod MethodAttributeLaws

@@ -11,11 +11,10 @@ use Rattle.fcg_grammar.proofs.Standing.{ok_is}
 use Rattle.fcg_views.specs.declared.fault.PoolRule.{PoolRule}
 use Rattle.fcg_views.specs.declared.fault.PoolRule.TheVariants.{WrongKind}
 use Rattle.fcg_views.specs.ClassFile.{is_one_of, Constant, Utf8, Plain, Named, Pair, Handle}
-use Rattle.fcg_views.specs.Reads.{joined, constant_at, NamesUtf8, NamesClass}
+use Rattle.fcg_views.specs.Constants.{joined, constant_at, NamesUtf8, NamesClass, NamesPair, NamesMember, NamesReference, NamesHandle, NamesDynamic}
 use Rattle.fcg_views.specs.Breaks.Fault.{at_place}
 use Rattle.fcg_views.specs.Breaks.Pool.{Placed, Entries, in_slot, constant_of, text_in, text_of, name_in, name_of, Indexes, pair_in, pair_of, Reference, reference_of, handle_in, handle_of, dynamic_of}
 use Rattle.fcg_laws.specs.Tables.{Holds}
-use Rattle.fcg_laws.specs.References.{NamesPair, NamesMember, NamesReference, NamesHandle, NamesDynamic}
 
 pub at_ok : {A : Type 0} (at index : ℕ) (r : Result A PoolRule) (x : A) → at_place at index r ≡ Ok x → r ≡ Ok x
 at_ok at index (Ok y) x e = let same : y ≡ x = cc in ap (λ (z : _). Ok z) same

@@ -11,7 +11,8 @@ use Rattle.fcg_grammar.proofs.Standing.{Stands, Stands-then, ok_is}
 use Rattle.fcg_grammar.proofs.RowLaws.{FoundRow, ReadRow, rows_found, rows_only}
 use Rattle.fcg_views.specs.declared.fault.ClassRule.TheVariants.{EmptyName}
 use Rattle.fcg_views.specs.ClassFile.{Constant, Utf8, Named}
-use Rattle.fcg_views.specs.Reads.{NamesUtf8, NamesType, NamesSuper}
+use Rattle.fcg_views.specs.Constants.{NamesUtf8}
+use Rattle.fcg_views.specs.Reads.{NamesType, NamesSuper}
 use Rattle.fcg_views.specs.Breaks.Fault.{fault, at_place}
 use Rattle.fcg_views.specs.Breaks.Number.{u2_at}
 use Rattle.fcg_views.specs.Breaks.Pool.{Entries, name_of, text_of}

@@ -1,17 +1,19 @@
 -- The view of a class file is valid.
-use Rattle.std.proofs.Common.{◌≡◌, ℕ, zero, suc, ◌^◌, ◌≤◌, ◌<◌, List, [], ◌∷◌, length, Option, Some, None, refl, sym, ap, subst, arith}
+use Rattle.std.proofs.Common.{◌≡◌, ℕ, zero, suc, ◌^◌, ◌<◌, List, [], ◌∷◌, ◌++◌, length, Option, Some, None, refl, sym, ap, subst, inl, inr, ◌+◌, arith}
 use Rattle.std.specs.List.{All, AllByRecursion, AllZip}
 use Rattle.std.proofs.lemmas.List.Elements.{All-nil}
-use Rattle.std.proofs.lemmas.List.Sums.{sum_by-cons}
 use Rattle.fcg_views.specs.declared.view.View.{View}
 use Rattle.fcg_views.specs.declared.view.Field.{Field}
 use Rattle.fcg_views.specs.declared.view.Method.{Method}
 use Rattle.fcg_views.specs.declared.view.Site.{Site}
-use Rattle.fcg_views.specs.ClassFile.{Constant, Utf8, slots, MethodInfo}
-use Rattle.fcg_views.specs.Reads.{NamesUtf8, NamesType, NamesSuper, Fits, IsMethodOf, Reads}
+use Rattle.fcg_views.specs.ClassFile.{Constant, Utf8, slots, Attribute, MethodInfo}
+use Rattle.fcg_views.specs.Constants.{NamesUtf8}
+use Rattle.fcg_views.specs.Reads.{NamesType, NamesSuper, Fits, HasSites, IsMethodOf, Reads}
+use Rattle.fcg_views.specs.Instructions.{Instruction, Plain, TableSwitch, LookupSwitch, Widened, instruction}
+use Rattle.fcg_views.specs.Sites.{SiteForm, site_form, IsSite, AreFormed, AreSitesOf, AreSites}
 use Rattle.fcg_laws.proofs.KeptLaws.{at_slot, all_slots}
 use Rattle.fcg_laws.proofs.WordLaws.{methods_distinct}
-use Rattle.fcg_views.specs.Valid.{IsShort, IsTable, IsShortOrNone, HasShortNames, IsValidField, IsValidMethod, site_count, IsValid}
+use Rattle.fcg_views.specs.Valid.{IsShort, IsTable, IsShortOrNone, HasShortNames, IsValidField, IsValidMethod, IsValid}
 
 zip_many : {C X : Type 0} (R : C → X → Type 0) (cs : List C) (xs : List X) → AllZip R cs xs → length xs ≡ length cs
 zip_many R [] [] z = refl
@@ -33,17 +35,6 @@ zip_right R P h (c ∷ cs) (x ∷ xs) z = (h c x z.0, zip_right R P h cs xs z.1)
 table_is : {C X : Type 0} (R : C → X → Type 0) (P : X → Type 0) → ((c : C) (x : X) → R c x → P x) → (cs : List C) (xs : List X) → length cs < 2 ^ 16 → AllZip R cs xs → IsTable P xs
 table_is R P h cs xs few z = let many = zip_many R cs xs z in (omega arith, each_all P xs (zip_right R P h cs xs z))
 
-no_sites : (ms : List Method) → AllByRecursion (λ m. m.sites ≡ []) ms → site_count ms ≡ 0
-no_sites [] none = refl
-no_sites (m ∷ ms) none =
-    let here : length m.sites ≡ 0 = ap length none.0 in
-    let others = no_sites ms none.1 in
-    let sum = sum_by-cons (λ (n : Method). length n.sites) m ms in
-    omega arith
-
-few_sites : (ms : List Method) → AllByRecursion (λ m. m.sites ≡ []) ms → site_count ms ≤ 1000000
-few_sites ms none = let n = no_sites ms none in omega arith
-
 module _ (cs : List Constant) (fit : AllByRecursion Fits cs) where
   short : (i : ℕ) (text : List ℕ) → NamesUtf8 cs i text → IsShort text
   short zero text is = absurd cc
@@ -56,8 +47,41 @@ module _ (cs : List Constant) (fit : AllByRecursion Fits cs) where
   short_super i None is = tt
   short_super i (Some name) is = short_type i name is.1
 
+  -- the sites that the constants of the pool name have short names
+  short_site : (form : SiteForm) (pc index : ℕ) (s : Site) → IsSite cs form pc index s → HasShortNames s
+  short_site form pc index s is =
+      let (i, j, pair, class, (n, d, member, name, desc)) = is.named in
+      (short class.0 s.target.owner class.2, short n s.target.name name, short d s.target.desc desc)
+
+  short_formed : (form : Option SiteForm) (pc : ℕ) (operands : List ℕ) (sites : List Site) → AreFormed cs form pc operands sites → AllByRecursion HasShortNames sites
+  short_formed None pc operands sites is = subst (λ (l : List Site). AllByRecursion HasShortNames l) (sym is) tt
+  short_formed (Some form) pc operands sites is = subst (λ (l : List Site). AllByRecursion HasShortNames l) (sym is.1) (short_site form pc is.2.index is.0 is.2.site, tt)
+
+  short_none : (sites : List Site) → sites ≡ [] → AllByRecursion HasShortNames sites
+  short_none sites is = subst (λ (l : List Site). AllByRecursion HasShortNames l) (sym is) tt
+
+  short_sites_of : (pc : ℕ) (i : Instruction) (sites : List Site) → AreSitesOf cs pc i sites → AllByRecursion HasShortNames sites
+  short_sites_of pc (Plain op operands) sites is = short_formed (site_form op) pc operands sites is.1
+  short_sites_of pc (TableSwitch op pad default low high offsets) sites is = short_none sites is
+  short_sites_of pc (LookupSwitch op pad default count pairs) sites is = short_none sites is
+  short_sites_of pc (Widened op inner operands) sites is = short_none sites is
+
+  both_short : (xs ys : List Site) → AllByRecursion HasShortNames xs → AllByRecursion HasShortNames ys → AllByRecursion HasShortNames (xs ++ ys)
+  both_short [] ys p q = q
+  both_short (x ∷ xs) ys p q = (p.0, both_short xs ys p.1 q)
+
+  short_sites : (pc : ℕ) (is : List Instruction) (sites : List Site) → AreSites cs pc is sites → AllByRecursion HasShortNames sites
+  short_sites pc [] sites are = short_none sites are
+  short_sites pc (i ∷ is) sites (here, others, joined, at, rest) =
+      subst (λ (l : List Site). AllByRecursion HasShortNames l) (sym joined) (both_short here others (short_sites_of pc i here at) (short_sites (pc + length (instruction i)) is others rest))
+
+  short_in : (attributes : List Attribute) (sites : List Site) → HasSites cs attributes sites → AllByRecursion HasShortNames sites
+  short_in [] sites has = short_none sites has
+  short_in (a ∷ more) sites (inl (other, has)) = short_in more sites has
+  short_in (a ∷ more) sites (inr (code, others)) = short_sites 0 code.code_is.instructions sites code.code_is.sites_are
+
   valid_method : (c : MethodInfo) (m : Method) → IsMethodOf cs c m → IsValidMethod m
-  valid_method c m is = (short c.name m.name is.name, short c.desc m.desc is.desc, subst (λ (s : List Site). All HasShortNames s) (sym is.sites) (All-nil HasShortNames))
+  valid_method c m is = (short c.name m.name is.name, short c.desc m.desc is.desc, each_all HasShortNames m.sites (short_in c.attributes m.sites is.sites))
 
 pub reads_valid : (bytes : List ℕ) (v : View) → Reads bytes v → IsValid v
 reads_valid bytes v r =
@@ -72,5 +96,5 @@ reads_valid bytes v r =
       fields = subst (λ (f : List Field). IsTable IsValidField f) (sym is.fields) (omega arith, All-nil IsValidField);
       methods = table_is (IsMethodOf pool) IsValidMethod (valid_method pool fit) c.methods v.methods is.few_methods is.methods;
       distinct = methods_distinct v.methods is.distinct;
-      few_sites = few_sites v.methods (zip_right (IsMethodOf pool) (λ m. m.sites ≡ []) (λ i m k. k.sites) c.methods v.methods is.methods);
+      few_sites = is.few_sites;
     }

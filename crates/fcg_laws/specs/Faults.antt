@@ -2,9 +2,11 @@
 use Rattle.std.specs.Prelude.{◌≡◌, ℕ, ◌+◌, ◌-◌, ◌<◌, ◌≤◌, List, ◌++◌, length, Bool, Err}
 use Rattle.std.specs.List.{flat_map, AllByRecursion, AllZip, IsDistinct}
 use Rattle.fcg_grammar.specs.Number.{part}
+use Rattle.fcg_grammar.specs.Reading.{◌>>=◌}
 use Rattle.fcg_grammar.specs.Spell.{u2}
 use Rattle.fcg_grammar.specs.First.{BreaksFirst}
 use Rattle.fcg_views.specs.declared.view.Method.{Method}
+use Rattle.fcg_views.specs.declared.view.Site.{Site}
 use Rattle.fcg_views.specs.declared.code.CodeRule.{CodeRule}
 use Rattle.fcg_views.specs.declared.fault.PoolFault.{PoolFault}
 use Rattle.fcg_views.specs.declared.fault.ClassFault.{ClassFault}
@@ -16,7 +18,10 @@ use Rattle.fcg_views.specs.Breaks.Pool as pools
 use Rattle.fcg_views.specs.Breaks.Pool.{Entries, constant_read, slot_kept}
 use Rattle.fcg_views.specs.Breaks.Members.{method_at}
 use Rattle.fcg_views.specs.Instructions.{Instruction, instruction, FitFrom}
+use Rattle.fcg_views.specs.Sites.{AreSites}
+use Rattle.fcg_views.specs.Breaks.Fault.{at_opcode}
 use Rattle.fcg_views.specs.Breaks.Instructions.{next_at}
+use Rattle.fcg_views.specs.Breaks.Code.{sites_at}
 use Rattle.fcg_laws.specs.Tables.{unplaced}
 
 -- the bytes from a place on, up to another, are a text
@@ -45,3 +50,16 @@ pub record BrokenCode (code : List ℕ) (f : ℕ × CodeRule) : Type 0 where
   pub fits : FitFrom 0 before
   pub within : f.0 < length code
   pub broken : next_at code f.0 ≡ Err f.1
+
+-- the first fault of a code with its sites is that of an instruction after some that stand there, with their sites: it
+-- breaks a rule of instructions, or its site breaks one
+pub record BrokenSites (pool : Entries) (constants : List Constant) (begin : ℕ) (code : List ℕ) (count : ℕ) (f : ClassFault) : Type 0 where
+  pub before : List Instruction
+  pub sites : List Site
+  pub pc : ℕ
+  pub fills : Fills code 0 (flat_map instruction before) pc
+  pub fits : FitFrom 0 before
+  pub sites_are : AreSites constants 0 before sites
+  pub few : count + length sites ≤ 1000000
+  pub within : pc < length code
+  pub broken : (at_opcode (begin + pc) (next_at code pc) >>= λ next. sites_at pool begin code pc (count + length sites)) ≡ Err f

@@ -1,5 +1,5 @@
 //! Laws of the definitions.
-ghost use Rattle.std.specs.Prelude.{◌≡◌, ℕ, ◌<◌, List, Option, Ok, Err, count_by, is_some, nat_lt, if◌then◌else◌};
+ghost use Rattle.std.specs.Prelude.{◌≡◌, ◌↔◌, ℕ, ◌<◌, ◌≤◌, List, Option, Ok, Err, count_by, is_some, nat_lt, if◌then◌else◌};
 ghost use Rattle.fcg_grammar.specs.Rows.{each};
 ghost use Rattle.fcg_grammar.specs.Spell.{IsBytes};
 ghost use Rattle.fcg_grammar.specs.First.{BreaksFirst, AllKept};
@@ -8,14 +8,16 @@ ghost use Rattle.fcg_views.specs.declared.code.CodeRule.{CodeRule};
 ghost use Rattle.fcg_views.specs.declared.fault.PoolFault.{PoolFault};
 ghost use Rattle.fcg_views.specs.declared.fault.ClassFault.{ClassFault};
 ghost use Rattle.fcg_views.specs.ClassFile.{Constant};
+ghost use Rattle.fcg_views.specs.Constants.{NamesUtf8, NamesClass, NamesReference, NamesHandle, NamesDynamic};
 ghost use Rattle.fcg_views.specs.Reads.{IsPool, Reads, Verdict};
 ghost use Rattle.fcg_views.specs.Valid.{IsValid};
-ghost use Rattle.fcg_views.specs.Breaks.Pool.{Placed, Entries, slot_kept, pool_at};
+ghost use Rattle.fcg_views.specs.Breaks.Pool.{Placed, Entries, Reference, text_of, name_of, reference_of, handle_of, dynamic_of, slot_kept, pool_at};
 ghost use Rattle.fcg_views.specs.Breaks.Members.{methods_at};
 ghost use Rattle.fcg_views.specs.Instructions.{is_in_any, forms, form_of, starts, Instruction, IsCode};
 ghost use Rattle.fcg_views.specs.Breaks.Instructions.{starts_of};
+ghost use Rattle.fcg_views.specs.Breaks.Code.{sites_of};
 ghost use Rattle.fcg_laws.specs.Tables.{Holds};
-ghost use Rattle.fcg_laws.specs.Faults.{BrokenPool, BrokenMethods, BrokenCode};
+ghost use Rattle.fcg_laws.specs.Faults.{BrokenPool, BrokenMethods, BrokenCode, BrokenSites};
 
 /// Each string of bytes is a class file with one view, or has one first fault, and never both.
 pub fn one_verdict()
@@ -44,6 +46,15 @@ pub fn pools_hold_constants()
     ensures { (bytes : List ℕ) (at : ℕ) (pool : Entries) (after : ℕ) → IsBytes bytes → pool_at bytes at ≡ Ok (pool, after) → (constants : List Constant) × Holds pool constants × IsPool constants }
 {}
 
+/// What an index names where a pool is read, and what it names in the constants that the pool holds, are one.
+pub fn one_name()
+    ensures utf8 { (pool : Entries) (constants : List Constant) → Holds pool constants → (index : ℕ) (text : List ℕ) → (text_of pool index ≡ Ok text) ↔ NamesUtf8 constants index text }
+    ensures class { (pool : Entries) (constants : List Constant) → Holds pool constants → (index : ℕ) (name : List ℕ) → ((i : ℕ) × (name_of pool index ≡ Ok i) × (text_of pool i ≡ Ok name)) ↔ NamesClass constants index name }
+    ensures reference { (pool : Entries) (constants : List Constant) → Holds pool constants → (index : ℕ) (r : Reference) → (reference_of pool index ≡ Ok r) ↔ NamesReference constants index r.tag r.owner r.name r.desc }
+    ensures handle { (pool : Entries) (constants : List Constant) → Holds pool constants → (index kind : ℕ) (r : Reference) → (handle_of pool index ≡ Ok (kind, r)) ↔ NamesHandle constants index kind r.tag r.owner r.name r.desc }
+    ensures dynamic { (pool : Entries) (constants : List Constant) → Holds pool constants → (index i : ℕ) → (dynamic_of pool index ≡ Ok i) ↔ NamesDynamic constants index i }
+{}
+
 /// What stands in the methods before their first fault, where the pool has these constants.
 pub fn first_fault_of_methods()
     ensures { (pool : Entries) (constants : List Constant) (at : ℕ) (f : ClassFault) → IsBytes pool.bytes → Holds pool constants → methods_at pool at ≡ Err f → BrokenMethods pool constants at f }
@@ -60,6 +71,12 @@ pub fn one_code()
 /// What stands in a code before its first fault.
 pub fn first_fault_of_code()
     ensures { (code : List ℕ) (f : ℕ × CodeRule) → IsBytes code → starts_of code ≡ Err f → BrokenCode code f }
+{}
+
+/// What stands in a code before its first fault, with the sites of its instructions. The code begins at a place of the
+/// file, so many sites of the class are before it, and the pool has these constants.
+pub fn first_fault_of_sites()
+    ensures { (pool : Entries) (constants : List Constant) (begin : ℕ) (code : List ℕ) (count : ℕ) (f : ClassFault) → Holds pool constants → IsBytes code → count ≤ 1000000 → sites_of pool begin code count ≡ Err f → BrokenSites pool constants begin code count f }
 {}
 
 /// Each opcode up to 201 stands in one row of the table of forms, and no other stands in any.

@@ -8,5 +8,6 @@ mod laws;
 
 pub use laws::{
     class_files_are_valid, first_fault_of_code, first_fault_of_methods, first_fault_of_pool,
-    one_code, one_verdict, opcodes_have_one_form, pool_check_is_first, pools_hold_constants,
+    first_fault_of_sites, one_code, one_name, one_verdict, opcodes_have_one_form,
+    pool_check_is_first, pools_hold_constants,
 };

@@ -5,6 +5,8 @@ pub mod Fault
 pub mod Number
 pub mod Groups
 pub mod Pool
+pub mod Instructions
+pub mod Attributes
+pub mod Code
 pub mod Members
 pub mod Class
-pub mod Instructions

@@ -77,6 +77,14 @@ pub record Attribute : Type 0 where
   pub name : ℕ
   pub content : List ℕ
 
+-- Code_attribute (4.7.3), by what stands in the content of the attribute; a row of the exception table has 8 bytes
+pub record Code : Type 0 where
+  pub stack : ℕ
+  pub locals : ℕ
+  pub code : List ℕ
+  pub handlers : List (List ℕ)
+  pub attributes : List Attribute
+
 -- method_info (4.6)
 pub record MethodInfo : Type 0 where
   pub flags : ℕ
@@ -108,6 +116,12 @@ constant c = tag_of c ∷ info c
 
 abbrev pub attribute : Attribute → List ℕ
 attribute a = concat (u2 a.name ∷ u4 (length a.content) ∷ a.content ∷ [])
+
+abbrev pub code_info : Code → List ℕ
+code_info c = concat (
+    u2 c.stack ∷ u2 c.locals ∷ u4 (length c.code) ∷ c.code
+    ∷ u2 (length c.handlers) ∷ flat_map (λ row. row) c.handlers
+    ∷ u2 (length c.attributes) ∷ flat_map attribute c.attributes ∷ [])
 
 abbrev pub method_info : MethodInfo → List ℕ
 method_info m = concat (

@@ -3,8 +3,10 @@ pub mod Place
 pub mod Descriptor
 pub mod DescSteps
 pub mod ClassFile
-pub mod Reads
+pub mod Constants
 pub mod Instructions
+pub mod Sites
+pub mod Reads
 pub mod Breaks
 pub mod Valid
 pub mod DescBounds

@@ -1,11 +1,16 @@
 -- What it means that bytes are a class file with a view (JVMS 4). Read besides: which first fault they have instead.
-use Rattle.std.specs.Prelude.{◌≡◌, ◌≢◌, ℕ, zero, suc, ◌+◌, ◌<◌, ◌≤◌, ◌^◌, List, [], ◌∷◌, length, true, codes, Option, Some, None, Err}
-use Rattle.std.specs.List.{flat_map, slice_get, AllByRecursion, AllPairs, AllZip}
+use Rattle.std.specs.Prelude.{◌≡◌, ◌≢◌, ◌⊎◌, ℕ, ◌+◌, ◌<◌, ◌≤◌, ◌^◌, List, [], ◌∷◌, length, true, codes, Option, Some, None, Err}
+use Rattle.std.specs.List.{flat_map, AllByRecursion, AllPairs, AllZip}
 use Rattle.fcg_views.specs.declared.view.View.{View}
 use Rattle.fcg_views.specs.declared.view.Method.{Method}
+use Rattle.fcg_views.specs.declared.view.Site.{Site}
 use Rattle.fcg_views.specs.declared.fault.ClassFault.{ClassFault}
-use Rattle.fcg_views.specs.ClassFile.{Bytes, One, Two, shape_of, is_one_of, Constant, Utf8, Plain, Named, Pair, Handle, tag_of, slots, wants, Attribute, MethodInfo, ClassFile, spelling}
+use Rattle.fcg_views.specs.ClassFile.{Bytes, One, Two, shape_of, is_one_of, Constant, Utf8, Plain, Named, Pair, Handle, tag_of, slots, wants, Attribute, Code, code_info, MethodInfo, ClassFile, spelling}
+use Rattle.fcg_views.specs.Constants.{constant_at, NamesUtf8, NamesClass}
 use Rattle.fcg_views.specs.Descriptor.{IsDescriptor}
+use Rattle.fcg_views.specs.Instructions.{Instruction, IsCode}
+use Rattle.fcg_views.specs.Sites.{AreSites}
+use Rattle.fcg_views.specs.Valid.{site_count}
 use Rattle.fcg_views.specs.Breaks.Class.{class_of}
 
 -- modified UTF-8 (4.4.7): 01 to 7f; c0 to df and one of 80 to bf; e0 to ef and two of these
@@ -21,21 +26,6 @@ IsGroup (a ∷ b ∷ c ∷ d ∷ more) = ⊥
 
 abbrev pub AreGroups : List ℕ → Type 0
 AreGroups text = (groups : List (List ℕ)) × AllByRecursion IsGroup groups × (text ≡ flat_map (λ group. group) groups)
-
--- the constant at an index; index 0 names nothing, nor does the second of a Long or Double
-abbrev pub joined : Option (Option Constant) → Option Constant
-joined None = None
-joined (Some slot) = slot
-
-abbrev pub constant_at : List Constant → ℕ → Option Constant
-constant_at pool zero = None
-constant_at pool (suc i) = joined (slice_get (slots pool) i)
-
-abbrev pub NamesUtf8 : List Constant → ℕ → List ℕ → Type 0
-NamesUtf8 pool index text = constant_at pool index ≡ Some (Utf8 text)
-
-abbrev pub NamesClass : List Constant → ℕ → List ℕ → Type 0
-NamesClass pool index name = (i : ℕ) × (constant_at pool index ≡ Some (Named 7 i)) × NamesUtf8 pool i name
 
 -- what a constant keeps by itself
 abbrev pub Fits : Constant → Type 0
@@ -62,18 +52,48 @@ abbrev pub NamesSuper : List Constant → ℕ → Option (List ℕ) → Type 0
 NamesSuper pool index None = index ≡ 0
 NamesSuper pool index (Some name) = (0 < index) × NamesType pool index name
 
--- an attribute that is passed over; those of two names aren't read yet
-pub record IsPassed (pool : List Constant) (a : Attribute) : Type 0 where
-  pub name : List ℕ
+-- an attribute of a name; BootstrapMethods isn't read yet
+pub record IsNamed (pool : List Constant) (a : Attribute) (name : List ℕ) : Type 0 where
   pub index : a.name < 2 ^ 16
   pub named : NamesUtf8 pool a.name name
-  pub no_code : name ≢ codes "Code"
   pub no_methods : name ≢ codes "BootstrapMethods"
   pub fits : length a.content < 2 ^ 32
+
+-- an attribute that is passed over by its length
+abbrev pub IsPassed : List Constant → Attribute → Type 0
+IsPassed pool a = (name : List ℕ) × IsNamed pool a name
 
 pub record ArePassed (pool : List Constant) (attributes : List Attribute) : Type 0 where
   pub few : length attributes < 2 ^ 16
   pub each : AllByRecursion (IsPassed pool) attributes
+
+-- the code of a method (4.7.3), with its sites
+pub record IsCodeOf (pool : List Constant) (c : Code) (sites : List Site) : Type 0 where
+  pub stack : c.stack < 2 ^ 16
+  pub locals : c.locals < 2 ^ 16
+  pub some : 1 ≤ length c.code
+  pub short : length c.code ≤ 65535
+  pub instructions : List Instruction
+  pub code : IsCode c.code instructions
+  pub sites_are : AreSites pool 0 instructions sites
+  pub few_handlers : length c.handlers < 2 ^ 16
+  pub handlers : AllByRecursion (λ row. length row ≡ 8) c.handlers
+  pub attributes : ArePassed pool c.attributes
+
+pub record IsCodeAttribute (pool : List Constant) (a : Attribute) (sites : List Site) : Type 0 where
+  pub named : IsNamed pool a (codes "Code")
+  pub code : Code
+  pub content : a.content ≡ code_info code
+  pub code_is : IsCodeOf pool code sites
+
+-- an attribute of a method that is passed over
+abbrev pub IsOther : List Constant → Attribute → Type 0
+IsOther pool a = (name : List ℕ) × IsNamed pool a name × (name ≢ codes "Code")
+
+-- The sites of a method are those of its Code, of which it has one at most.
+abbrev pub HasSites : List Constant → List Attribute → List Site → Type 0
+HasSites pool [] sites = sites ≡ []
+HasSites pool (a ∷ more) sites = (IsOther pool a × HasSites pool more sites) ⊎ (IsCodeAttribute pool a sites × AllByRecursion (IsOther pool) more)
 
 pub record IsMethodOf (pool : List Constant) (m : MethodInfo) (v : Method) : Type 0 where
   pub flags : m.flags < 2 ^ 16
@@ -84,8 +104,8 @@ pub record IsMethodOf (pool : List Constant) (m : MethodInfo) (v : Method) : Typ
   pub desc_index : m.desc < 2 ^ 16
   pub desc : NamesUtf8 pool m.desc v.desc
   pub typed : IsDescriptor v.desc
-  pub attributes : ArePassed pool m.attributes
-  pub sites : v.sites ≡ []
+  pub few_attributes : length m.attributes < 2 ^ 16
+  pub sites : HasSites pool m.attributes v.sites
 
 -- the view of a class file, which is no module
 pub record IsViewOf (c : ClassFile) (v : View) : Type 0 where
@@ -104,6 +124,7 @@ pub record IsViewOf (c : ClassFile) (v : View) : Type 0 where
   pub methods : AllZip (IsMethodOf c.pool) c.methods v.methods
   -- no two methods have one name and one descriptor (4.6)
   pub distinct : AllPairs (λ m n. m.name ≡ n.name → m.desc ≢ n.desc) v.methods
+  pub few_sites : site_count v.methods ≤ 1000000
   pub attributes : ArePassed c.pool c.attributes
 
 -- the bytes are a class file, and it has this view

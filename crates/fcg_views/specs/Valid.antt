@@ -1,5 +1,5 @@
 -- Which views are valid: those that a class file could have.
-use Rattle.std.specs.Prelude.{ℕ, ◌≤◌, List, length, sum_by, All, Option, Some, None}
+use Rattle.std.specs.Prelude.{ℕ, ◌-◌, ◌≤◌, List, length, sum_by, All, nat_le, Option, Some, None, if◌then◌else◌}
 use Rattle.std.specs.List.{IsDistinct}
 use Rattle.fcg_views.specs.declared.view.View.{View}
 use Rattle.fcg_views.specs.declared.view.Field.{Field}
@@ -31,6 +31,14 @@ IsValidMethod m = IsShort m.name × IsShort m.desc × All HasShortNames m.sites
 -- the sites of all methods
 abbrev pub site_count : List Method → ℕ
 site_count methods = sum_by (λ m. length m.sites) methods
+
+-- the sites of all views
+abbrev pub sites_of_all : List View → ℕ
+sites_of_all views = sum_by (λ v. site_count v.methods) views
+
+-- what is left of a number when another is taken from it
+abbrev pub left_of : ℕ → ℕ → Option ℕ
+left_of room n = if nat_le n room then Some (room - n) else None
 
 pub record IsValid (v : View) : Type 0 where
   pub name : IsShort v.name

@@ -1,8 +1,9 @@
 //! Why bytes are no class file.
 ghost use Rattle.std.specs.Prelude.{◌≡◌};
 ghost use Rattle.fcg_views.specs.Breaks.Pool.{pool_fault};
-ghost use Rattle.fcg_views.specs.Breaks.Fault.{fault, rule_of, fault_of, at_place};
+ghost use Rattle.fcg_views.specs.Breaks.Fault.{fault, rule_of, fault_of, at_place, code_rule_of, at_opcode};
 
+use crate::code::CodeRule;
 use fcg_grammar::ReadError;
 
 /// A rule of constant pools that bytes break.
@@ -54,9 +55,24 @@ pub enum ClassRule {
     EmptyName,
     /// An earlier method of the class has the same name and descriptor.
     DoubleMethod,
-    /// Bytes stand after the class file's end.
+    /// A method has a second attribute Code.
+    DoubleCode,
+    /// The length of a code is 0 or above 65,535.
+    CodeLength,
+    /// An instruction passes the code's end.
+    CodeCut,
+    /// An opcode is above 201.
+    BadOpcode,
+    /// The bounds of a `tableswitch` or the number of pairs of a `lookupswitch` are out of range.
+    BadSwitch,
+    /// A `wide` stands before an opcode that can't be made wide.
+    BadWide,
+    /// Bytes stand after the end of a Code attribute's content, or of the class file.
     Trailing,
-    /// What isn't read yet: a module, a field, an attribute Code or BootstrapMethods.
+    /// The class has more than 1,000,000 sites.
+    ManySites,
+    /// What isn't read yet: a module, a field, an attribute BootstrapMethods, and the instructions `getstatic`,
+    /// `putstatic`, `invokedynamic` and `new`.
     NotBuilt,
 }
 
@@ -104,6 +120,30 @@ pub fn at_index<T>(at: usize, index: u16, found: Result<T, PoolRule>) -> Result<
     match found {
         Ok(value) => Ok(value),
         Err(rule) => Err(fault_at(at, index, rule.class_rule())),
+    }
+}
+
+impl CodeRule {
+    /// The same rule of class files.
+    pub fn class_rule(self) -> ClassRule
+        ensures { result ≡ code_rule_of self }
+    {
+        match self {
+            CodeRule::CodeCut => ClassRule::CodeCut,
+            CodeRule::BadOpcode => ClassRule::BadOpcode,
+            CodeRule::BadSwitch => ClassRule::BadSwitch,
+            CodeRule::BadWide => ClassRule::BadWide,
+        }
+    }
+}
+
+/// A rule that an instruction broke, as a fault at the place of its opcode.
+pub fn at_opcode<T>(at: usize, found: Result<T, CodeRule>) -> Result<T, ClassFault>
+    ensures { result ≡ at_opcode at found }
+{
+    match found {
+        Ok(value) => Ok(value),
+        Err(rule) => Err(fault_at(at, 0, rule.class_rule())),
     }
 }
 

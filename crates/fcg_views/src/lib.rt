@@ -18,9 +18,11 @@ mod view;
 pub use code::CodeRule;
 pub use descriptor::{DescFault, DescSpan, read_descriptor};
 pub use escaping::{Place, escape, push_escaped};
-pub use fault::{ClassFault, ClassRule, PoolFault, PoolRule, at_index, fault_at, pool_fault_at};
+pub use fault::{
+    ClassFault, ClassRule, PoolFault, PoolRule, at_index, at_opcode, fault_at, pool_fault_at,
+};
 pub use items::{Bytes, Fields, Items, Methods, Names, Sites, Views};
 pub use memory::NoMemory;
 pub use name::Name;
-pub use valid::is_valid;
+pub use valid::{is_valid, sites_left};
 pub use view::{Field, HandleKind, Method, Ref, Site, SiteKind, View};

@@ -2,7 +2,7 @@
 ghost use Rattle.std.specs.Prelude.{◌≡◌, ◌↔◌, ◌≤◌, IsTrue, All, false};
 ghost use Rattle.std.specs.List.{IsDistinct};
 ghost use Rattle.fcg_views.specs.Breaks.Words.{is_alike};
-ghost use Rattle.fcg_views.specs.Valid.{IsShort, IsShortOrNone, IsTable, HasShortNames, IsValidField, IsValidMethod, IsValid, site_count};
+ghost use Rattle.fcg_views.specs.Valid.{IsShort, IsShortOrNone, IsTable, HasShortNames, IsValidField, IsValidMethod, IsValid, site_count, left_of};
 
 use crate::name::Name;
 use crate::view::{Field, Method, Site, View};
@@ -97,17 +97,25 @@ fn are_distinct(methods: &[Method]) -> bool
     true
 }
 
+/// How many sites are left of so many when the sites of some methods are taken from them, or `None` where these have
+/// more. Takes no memory, and one pass over the methods.
+pub fn sites_left(room: usize, methods: &[Method]) -> Option<usize>
+    ensures { result ≡ left_of room (site_count methods.now) }
+{
+    let mut left = room;
+    for method in methods {
+        match left.checked_sub(method.sites.as_slice().len()) {
+            Some(less) => left = less,
+            None => return None,
+        }
+    }
+    Some(left)
+}
+
 fn has_few_sites(methods: &[Method]) -> bool
     ensures { IsTrue result ↔ (site_count methods.now ≤ 1000000) }
 {
-    let mut room = MOST_SITES;
-    for method in methods {
-        match room.checked_sub(method.sites.as_slice().len()) {
-            Some(left) => room = left,
-            None => return false,
-        }
-    }
-    true
+    sites_left(MOST_SITES, methods).is_some()
 }
 
 /// Whether a view is one that a class file could have (JVMS 4.1): its lists of interfaces, fields and methods have at

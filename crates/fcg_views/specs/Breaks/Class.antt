@@ -9,7 +9,8 @@ use Rattle.fcg_views.specs.declared.fault.ClassRule.TheVariants.{Magic, Version,
 use Rattle.fcg_views.specs.Breaks.Fault.{fault, in_pool, at_place}
 use Rattle.fcg_views.specs.Breaks.Number.{u2_at, u4_at}
 use Rattle.fcg_views.specs.Breaks.Pool.{Entries, name_of, text_of, pool_at}
-use Rattle.fcg_views.specs.Breaks.Members.{attributes_at, methods_at}
+use Rattle.fcg_views.specs.Breaks.Attributes.{attributes_at}
+use Rattle.fcg_views.specs.Breaks.Members.{methods_at}
 
 -- cafebabe, and a major version from 45 to 65 with any minor
 unfoldable pub header_kept : List ℕ → Result (Unit {0}) ClassFault

@@ -5,7 +5,9 @@ use Rattle.fcg_views.specs.declared.fault.PoolRule.{PoolRule}
 use Rattle.fcg_views.specs.declared.fault.PoolRule.TheVariants as rules
 use Rattle.fcg_views.specs.declared.fault.ClassFault.{ClassFault}
 use Rattle.fcg_views.specs.declared.fault.ClassRule.{ClassRule}
-use Rattle.fcg_views.specs.declared.fault.ClassRule.TheVariants.{Cut, BadTag, BadUtf8, BadIndex, WrongKind}
+use Rattle.fcg_views.specs.declared.fault.ClassRule.TheVariants.{Cut, BadTag, BadUtf8, BadIndex, WrongKind, CodeCut, BadOpcode, BadSwitch, BadWide}
+use Rattle.fcg_views.specs.declared.code.CodeRule.{CodeRule}
+use Rattle.fcg_views.specs.declared.code.CodeRule.TheVariants as codes
 
 -- a place that is too large for its field is given as the field's last value
 abbrev pub fault : ℕ → ℕ → ClassRule → ClassFault
@@ -30,3 +32,15 @@ in_pool (Err f) = Err (fault_of f)
 abbrev pub at_place : {A : Type 0} → ℕ → ℕ → Result A PoolRule → Result A ClassFault
 at_place at index (Ok x) = Ok x
 at_place at index (Err rule) = Err (fault at index (rule_of rule))
+
+-- a rule of instructions is one of the class file
+abbrev pub code_rule_of : CodeRule → ClassRule
+code_rule_of codes.CodeCut = CodeCut
+code_rule_of codes.BadOpcode = BadOpcode
+code_rule_of codes.BadSwitch = BadSwitch
+code_rule_of codes.BadWide = BadWide
+
+-- a rule that an instruction broke is a fault at its opcode
+abbrev pub at_opcode : {A : Type 0} → ℕ → Result A CodeRule → Result A ClassFault
+at_opcode at (Ok x) = Ok x
+at_opcode at (Err rule) = Err (fault at 0 (code_rule_of rule))

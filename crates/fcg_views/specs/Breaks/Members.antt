@@ -1,37 +1,56 @@
--- Attributes and methods (JVMS 4.6, 4.7).
-use Rattle.std.specs.Prelude.{ℕ, ◌+◌, List, [], ◌∷◌, ◌++◌, length, not, nat_lt, Result, Ok}
+-- Methods (JVMS 4.6), with the sites of their code.
+use Rattle.std.specs.Prelude.{ℕ, ◌+◌, List, [], ◌∷◌, ◌++◌, length, not, nat_lt, is_none, Option, Some, None, Result, Ok, if◌then◌else◌}
 use Rattle.std.specs.List.{list_any}
 use Rattle.fcg_grammar.specs.Reading.{◌>>=◌, unless_broken}
 use Rattle.fcg_grammar.specs.Rows.{rows, ended}
 use Rattle.fcg_views.specs.declared.view.Method.{Method}
+use Rattle.fcg_views.specs.declared.view.Site.{Site}
 use Rattle.fcg_views.specs.declared.fault.ClassFault.{ClassFault}
-use Rattle.fcg_views.specs.declared.fault.ClassRule.TheVariants.{Descriptor, EmptyName, DoubleMethod, NotBuilt}
+use Rattle.fcg_views.specs.declared.fault.ClassRule.TheVariants.{Descriptor, EmptyName, DoubleMethod, DoubleCode}
 use Rattle.fcg_views.specs.DescSteps.{is_descriptor}
-use Rattle.fcg_views.specs.Breaks.Fault.{fault, at_place}
-use Rattle.fcg_views.specs.Breaks.Number.{u2_at, u4_at, part_at}
-use Rattle.fcg_views.specs.Breaks.Pool.{Entries, text_of}
-use Rattle.fcg_views.specs.Breaks.Words.{is_passed, is_alike}
+use Rattle.fcg_views.specs.Valid.{site_count}
+use Rattle.fcg_views.specs.Breaks.Fault.{fault}
+use Rattle.fcg_views.specs.Breaks.Number.{u2_at}
+use Rattle.fcg_views.specs.Breaks.Pool.{Entries}
+use Rattle.fcg_views.specs.Breaks.Attributes.{up_to, text_at, named_at, content_at}
+use Rattle.fcg_views.specs.Breaks.Code.{code_at}
+use Rattle.fcg_views.specs.Breaks.Words.{is_code, is_alike}
 
--- the text of the Utf8 whose index stands at a place
-unfoldable pub text_at : Entries → ℕ → Result (List ℕ) ClassFault
-text_at pool at = do
-  index ← u2_at pool.bytes at 0
-  at_place at index (text_of pool index)
+-- where the next attribute of a method stands, and the sites of the code that stands before it
+pub record CodeBegun : Type 0 where
+  pub at : ℕ
+  pub sites : Option (List Site)
 
--- an attribute that is passed over by its length: its name, its length, its content
-unfoldable pub attribute_at : Entries → ℕ → ℕ → Result (Unit {0} × ℕ) ClassFault
-attribute_at pool k at = do
-  name ← text_at pool at
-  passed ← unless_broken (is_passed name) (fault at 0 NotBuilt)
-  n ← u4_at pool.bytes (at + 2) 0
-  content ← part_at pool.bytes (at + 6) n 0
-  Ok (tt, at + 6 + n)
+-- the content of a Code, of which there was none before
+unfoldable pub code_attribute_at : Entries → ℕ → CodeBegun → Result (Unit {0} × CodeBegun) ClassFault
+code_attribute_at pool count begun = do
+  once ← unless_broken (is_none begun.sites) (fault begun.at 0 DoubleCode)
+  after ← content_at pool begun.at
+  sites ← code_at (up_to after pool) (begun.at + 6) count
+  Ok (tt, record { at = after; sites = Some sites })
 
--- the place after the attributes whose count stands at a place
-unfoldable pub attributes_at : Entries → ℕ → Result ℕ ClassFault
-attributes_at pool at = do
-  count ← u2_at pool.bytes at 0
-  ended (rows (attribute_at pool) count 0 (at + 2))
+abbrev pub other_attribute_at : Entries → CodeBegun → Result (Unit {0} × CodeBegun) ClassFault
+other_attribute_at pool begun = content_at pool begun.at >>= λ after. Ok (tt, record { at = after; sites = begun.sites })
+
+-- an attribute of a method, where so many sites of the class are before it
+unfoldable pub method_attribute_at : Entries → ℕ → ℕ → CodeBegun → Result (Unit {0} × CodeBegun) ClassFault
+method_attribute_at pool count k begun = do
+  name ← named_at pool begun.at
+  if is_code name then code_attribute_at pool count begun else other_attribute_at pool begun
+
+-- the attributes of a method whose count stands at a place
+unfoldable pub method_attributes_at : Entries → ℕ → ℕ → Result CodeBegun ClassFault
+method_attributes_at pool count at = do
+  n ← u2_at pool.bytes at 0
+  ended (rows (method_attribute_at pool count) n 0 (record { at = at + 2; sites = None }))
+
+-- without a code there is no site
+abbrev pub or_none : Option (List Site) → List Site
+or_none None = []
+or_none (Some sites) = sites
+
+abbrev pub with_sites : Method → List Site → Method
+with_sites m sites = record { name = m.name; desc = m.desc; flags = m.flags; sites = sites }
 
 -- where the next method stands, and the methods before it
 pub record Begun : Type 0 where
@@ -51,10 +70,11 @@ declared_at pool at = do
 -- a method whose name and descriptor no earlier one has, and its attributes
 unfoldable pub method_at : Entries → ℕ → Begun → Result (Method × Begun) ClassFault
 method_at pool k begun = do
-  method ← declared_at pool begun.at
-  fresh ← unless_broken (not (list_any (λ earlier. is_alike earlier method) begun.earlier)) (fault begun.at 0 DoubleMethod)
-  after ← attributes_at pool (begun.at + 6)
-  Ok (method, record { at = after; earlier = begun.earlier ++ method ∷ [] })
+  declared ← declared_at pool begun.at
+  fresh ← unless_broken (not (list_any (λ earlier. is_alike earlier declared) begun.earlier)) (fault begun.at 0 DoubleMethod)
+  read ← method_attributes_at pool (site_count begun.earlier) (begun.at + 6)
+  method ← Ok (with_sites declared (or_none read.sites))
+  Ok (method, record { at = read.at; earlier = begun.earlier ++ method ∷ [] })
 
 -- the methods whose count stands at a place, and the place after them
 unfoldable pub methods_at : Entries → ℕ → Result (List Method × ℕ) ClassFault

@@ -1,0 +1,417 @@
+-- The sites of a code: what is read is what the instructions name, and what they name is read.
+use Rattle.std.proofs.Common.{◌≡◌, ◌⊎◌, ℕ, zero, suc, ◌+◌, ◌*◌, ◌^◌, ◌≤◌, ◌<◌, Bool, true, false, not, ◌||◌, eqb, ltb, List, [], ◌∷◌, ◌++◌, length, get_or, Option, Some, None, refl, sym, ap, subst, ◌∙◌, inl, inr, arith}
+use Rattle.std.specs.Prelude.{Result, Ok, Err}
+use Rattle.std.specs.List.{flat_map}
+use Rattle.std.proofs.lemmas.Bool.{eqb-true, ltb-true, lt-ltb}
+use Rattle.std.proofs.lemmas.Bool.Decides.{nat_tests}
+use Rattle.std.proofs.lemmas.List.{append-nil, length-append}
+use Rattle.std.proofs.lemmas.List.Concat.{flat_map-cons}
+use Rattle.std.proofs.lemmas.Nat.{be_bytes_2}
+use Rattle.fcg_grammar.specs.Reading.{◌>>=◌, unless_broken}
+use Rattle.fcg_grammar.specs.Spell.{IsBytes, u2}
+use Rattle.fcg_grammar.proofs.LawLemmas.{bind_ok, chosen, kept_ok, ok_or_err}
+use Rattle.fcg_grammar.proofs.FaultLaws.{bind_err}
+use Rattle.fcg_grammar.proofs.Standing.{Stands, Stands-none, Stands-back, ok_is}
+use Rattle.fcg_views.specs.declared.view.Site.{Site}
+use Rattle.fcg_views.specs.declared.code.CodeRule.{CodeRule}
+use Rattle.fcg_views.specs.declared.fault.ClassFault.{ClassFault}
+use Rattle.fcg_views.specs.declared.fault.ClassRule.TheVariants.{WrongKind, EmptyName, Descriptor, ManySites, NotBuilt}
+use Rattle.fcg_views.specs.ClassFile.{is_one_of, Constant}
+use Rattle.fcg_views.specs.Constants.{NamesReference}
+use Rattle.fcg_views.specs.Descriptor.{IsDescriptor}
+use Rattle.fcg_views.specs.DescSteps.{is_descriptor}
+use Rattle.fcg_views.specs.Instructions.{Form, Fixed, Table, Lookup, Wide, form_of, Instruction, Plain, TableSwitch, LookupSwitch, Widened, instruction, FitsAt, FitFrom}
+use Rattle.fcg_views.specs.Sites.{SiteForm, site_form, is_unread, IsSite, IsSiteWith, AreFormed, AreSitesOf, AreSites}
+use Rattle.fcg_views.specs.Breaks.Fault.{fault, at_place, at_opcode}
+use Rattle.fcg_views.specs.Breaks.Pool.{Entries, Reference, reference_of}
+use Rattle.fcg_views.specs.Breaks.Instructions.{next_at, operand_at}
+use Rattle.fcg_views.specs.Breaks.Code.{callee_of, site_of, site_at, sites_by, sites_at, sites_from}
+use Rattle.fcg_views.proofs.DescLaws.{descriptor_found, descriptor_only}
+use Rattle.fcg_laws.specs.Tables.{Holds}
+use Rattle.fcg_laws.proofs.NameLaws.{at_ok, reference_found, reference_only}
+use Rattle.fcg_laws.proofs.InstructionLaws.{FoundAt, next_found, next_only, some_byte, opcode_is, operand_is, stands_first, not_end, further}
+
+-- ---- the opcodes that are looked at have two bytes or more after them
+
+-- an opcode with two bytes or more after it
+abbrev IsLong : ℕ → Type 0
+IsLong op = (n : ℕ) × (form_of op ≡ Some (Fixed (suc (suc n))))
+
+by_number : (k op : ℕ) → IsLong k → eqb op k ≡ true → IsLong op
+by_number k op long e = subst IsLong (sym (eqb-true _ _ e)) long
+
+by_tag : (k op : ℕ) → IsLong k → eqb k op ≡ true → IsLong op
+by_tag k op long e = subst IsLong (eqb-true _ _ e) long
+
+called_long : (op : ℕ) (form : SiteForm) → site_form op ≡ Some form → IsLong op
+called_long op form e =
+    elim (chosen (eqb op 182) _ _ _ e) [
+      | inl is ↦ by_number 182 op (0, refl) is.0
+      | inr a ↦ elim (chosen (eqb op 183) _ _ _ a.1) [
+        | inl is ↦ by_number 183 op (0, refl) is.0
+        | inr b ↦ elim (chosen (eqb op 184) _ _ _ b.1) [
+          | inl is ↦ by_number 184 op (0, refl) is.0
+          | inr c ↦ elim (chosen (eqb op 185) _ _ _ c.1) [
+            | inl is ↦ by_number 185 op (2, refl) is.0
+            | inr d ↦ (let bad = d.1 in absurd cc)
+          ]
+        ]
+      ]
+    ]
+
+either : (a b : Bool) → (a || b) ≡ true → (a ≡ true) ⊎ (b ≡ true)
+either true b e = inl refl
+either false b e = inr e
+
+unread_long : (op : ℕ) → is_unread op ≡ true → IsLong op
+unread_long op e =
+    elim (either (eqb 178 op) _ e) [
+      | inl is ↦ by_tag 178 op (0, refl) is
+      | inr a ↦ elim (either (eqb 179 op) _ a) [
+        | inl is ↦ by_tag 179 op (0, refl) is
+        | inr b ↦ elim (either (eqb 186 op) _ b) [
+          | inl is ↦ by_tag 186 op (2, refl) is
+          | inr c ↦ elim (either (eqb 187 op) _ c) [
+            | inl is ↦ by_tag 187 op (0, refl) is
+            | inr d ↦ absurd cc
+          ]
+        ]
+      ]
+    ]
+
+-- an opcode of another form is none of them
+abbrev IsShortForm : Form → Type 0
+IsShortForm (Fixed n) = ⊥
+IsShortForm Table = Unit {0}
+IsShortForm Lookup = Unit {0}
+IsShortForm Wide = Unit {0}
+
+not_long : (op : ℕ) (f : Form) → IsShortForm f → form_of op ≡ Some f → IsLong op → ⊥
+not_long op (Fixed n) short is long = short
+not_long op Table short is long = let bad = sym is ∙ long.1 in cc
+not_long op Lookup short is long = let bad = sym is ∙ long.1 in cc
+not_long op Wide short is long = let bad = sym is ∙ long.1 in cc
+
+none_by : (o : Option SiteForm) → ((f : SiteForm) → o ≡ Some f → ⊥) → o ≡ None
+none_by None h = refl
+none_by (Some f) h = absurd (h f refl)
+
+false_by : (b : Bool) → (b ≡ true → ⊥) → b ≡ false
+false_by true h = absurd (h refl)
+false_by false h = refl
+
+no_call : (op : ℕ) (f : Form) → IsShortForm f → form_of op ≡ Some f → site_form op ≡ None
+no_call op f short is = none_by (site_form op) (λ g e. not_long op f short is (called_long op g e))
+
+all_read : (op : ℕ) (f : Form) → IsShortForm f → form_of op ≡ Some f → is_unread op ≡ false
+all_read op f short is = false_by (is_unread op) (λ e. not_long op f short is (unread_long op e))
+
+-- ---- a site
+pub record Callee (constants : List Constant) (tags : List ℕ) (index : ℕ) (r : Reference) : Type 0 where
+  pub named : NamesReference constants index r.tag r.owner r.name r.desc
+  pub allowed : is_one_of tags r.tag ≡ true
+  pub owner : 0 < length r.owner
+  pub name : 0 < length r.name
+  pub typed : IsDescriptor r.desc
+
+module _ (pool : Entries) (constants : List Constant) (holds : Holds pool constants) where
+  callee_found : (tags : List ℕ) (at index : ℕ) (r : Reference) → callee_of pool tags at index ≡ Ok r → Callee constants tags index r
+  unfolding callee_of
+  callee_found tags at index r e =
+      let a = bind_ok (at_place at index (reference_of pool index)) _ r e in
+      let b = bind_ok (unless_broken (is_one_of tags a.0.tag) (fault at index WrongKind)) _ r a.2 in
+      let c = bind_ok (unless_broken (ltb 0 (length a.0.owner)) (fault at 0 EmptyName)) _ r b.2 in
+      let d = bind_ok (unless_broken (ltb 0 (length a.0.name)) (fault at 0 EmptyName)) _ r c.2 in
+      let f = bind_ok (unless_broken (is_descriptor a.0.desc) (fault at 0 Descriptor)) _ r d.2 in
+      let named = reference_found pool constants holds index a.0 (at_ok at index (reference_of pool index) a.0 a.1) in
+      subst (λ (x : Reference). Callee constants tags index x) (ok_is a.0 r f.2) (record {
+        named = named;
+        allowed = kept_ok _ _ b.0 b.1;
+        owner = ltb-true _ _ (kept_ok _ _ c.0 c.1);
+        name = ltb-true _ _ (kept_ok _ _ d.0 d.1);
+        typed = descriptor_found a.0.desc (kept_ok _ _ f.0 f.1);
+      })
+
+  callee_only : (tags : List ℕ) (at index : ℕ) (r : Reference) → Callee constants tags index r → callee_of pool tags at index ≡ Ok r
+  unfolding callee_of
+  callee_only tags at index r is =
+      let named = reference_only pool constants holds index r is.named in
+      let owner : ltb 0 (length r.owner) ≡ true = lt-ltb _ _ is.owner in
+      let name : ltb 0 (length r.name) ≡ true = lt-ltb _ _ is.name in
+      let typed = descriptor_only r.desc is.typed in
+      rw (named, is.allowed, owner, name, typed) refl
+
+  -- what a site names
+  abbrev named_by : ℕ → Site → Reference
+  named_by tag s = record { tag = tag; owner = s.target.owner; name = s.target.name; desc = s.target.desc }
+
+  made_is : (form : SiteForm) (pc tag : ℕ) (s : Site) → s.pc ≡ pc → s.kind ≡ form.kind → s.target.owner_is_interface_ref ≡ eqb tag 11 → site_of form pc (named_by tag s) ≡ s
+  made_is form pc tag s p k i = rw (← p, ← k, ← i) refl
+
+  module _ (begin : ℕ) (code : List ℕ) where
+    site_found : (form : SiteForm) (pc count : ℕ) (s : Site) → site_at pool begin code form pc count ≡ Ok s → IsSite constants form pc (operand_at code pc) s × (count < 1000000)
+    unfolding site_at
+    site_found form pc count s e =
+        let a = bind_ok (callee_of pool form.tags (begin + pc) (operand_at code pc)) _ s e in
+        let b = bind_ok (unless_broken (ltb count 1000000) (fault (begin + pc) 0 ManySites)) _ s a.2 in
+        let c = callee_found form.tags (begin + pc) (operand_at code pc) a.0 a.1 in
+        let few : count < 1000000 = ltb-true _ _ (kept_ok _ _ b.0 b.1) in
+        subst (λ (x : Site). IsSite constants form pc (operand_at code pc) x × (count < 1000000)) (ok_is (site_of form pc a.0) s b.2)
+        (record { pc_is = refl; kind_is = refl; tag = a.0.tag; allowed = c.allowed; named = c.named; interface = refl; owner = c.owner; name = c.name; typed = c.typed }, few)
+
+    site_only : (form : SiteForm) (pc count : ℕ) (s : Site) → count < 1000000 → IsSite constants form pc (operand_at code pc) s → site_at pool begin code form pc count ≡ Ok s
+    unfolding site_at
+    site_only form pc count s few is =
+        let callee : Callee constants form.tags (operand_at code pc) (named_by is.tag s) = record { named = is.named; allowed = is.allowed; owner = is.owner; name = is.name; typed = is.typed } in
+        let c = callee_only form.tags (begin + pc) (operand_at code pc) (named_by is.tag s) callee in
+        let counted : ltb count 1000000 ≡ true = lt-ltb _ _ few in
+        rw (c, counted) (ap (λ (x : Site). Ok x) (made_is form pc is.tag s is.pc_is is.kind_is is.interface))
+
+    -- ---- the sites of an instruction
+
+    -- the two bytes after an opcode are the spelling of their number
+    record FoundOperand (pc a b : ℕ) (more : List ℕ) : Type 0 where
+      index : ℕ
+      few : index < 2 ^ 16
+      spelled : a ∷ b ∷ more ≡ u2 index ++ more
+      read_is : operand_at code pc ≡ index
+
+    two_spelled : (a b : ℕ) → a < 256 → b < 256 → u2 (a * 256 + b) ≡ a ∷ b ∷ []
+    two_spelled a b la lb = be_bytes_2 (a ∷ b ∷ []) (a * 256 + b) refl fits refl
+      where
+        fits : (i : ℕ) → get_or (a ∷ b ∷ []) i 0 < 256
+        fits zero = la
+        fits (suc zero) = lb
+        fits (suc (suc i)) = omega arith
+
+    operand_for : (pc op : ℕ) (operands : List ℕ) (index : ℕ) (more rest : List ℕ) (after : ℕ) → index < 2 ^ 16 → operands ≡ u2 index ++ more → FitsAt pc (Plain op operands) → Stands code pc (instruction (Plain op operands) ++ rest) after → operand_at code pc ≡ index
+    operand_for pc op operands index more rest after few spelled fits s =
+        operand_is code pc op index more rest after few (subst (λ (l : List ℕ). FitsAt pc (Plain op l)) spelled fits) (subst (λ (l : List ℕ). Stands code pc (instruction (Plain op l) ++ rest) after) spelled s)
+
+    found_operand : IsBytes code → (pc op a b : ℕ) (more rest : List ℕ) (after : ℕ) → FitsAt pc (Plain op (a ∷ b ∷ more)) → Stands code pc (op ∷ a ∷ b ∷ (more ++ rest)) after → FoundOperand pc a b more
+    found_operand bytes pc op a b more rest after fits s =
+        let s1 = Stands-back (op ∷ []) (a ∷ b ∷ (more ++ rest)) s in
+        let s2 = Stands-back (a ∷ []) (b ∷ (more ++ rest)) s1 in
+        let a_is = opcode_is code (pc + 1) a (b ∷ (more ++ rest)) after s1 in
+        let b_is = opcode_is code (pc + 1 + 1) b (more ++ rest) after s2 in
+        let la : a < 256 = subst (λ (n : ℕ). n < 256) a_is (bytes (pc + 1)) in
+        let lb : b < 256 = subst (λ (n : ℕ). n < 256) b_is (bytes (pc + 1 + 1)) in
+        let index : ℕ = a * 256 + b in
+        let few : index < 2 ^ 16 = omega arith in
+        let spelled : a ∷ b ∷ more ≡ u2 index ++ more = ap (λ (l : List ℕ). l ++ more) (sym (two_spelled a b la lb)) in
+        record { index = index; few = few; spelled = spelled; read_is = operand_for pc op (a ∷ b ∷ more) index more rest after few spelled fits s }
+
+    abbrev Few : ℕ → List Site → Type 0
+    Few count sites = count + length sites ≤ 1000000
+
+    formed_found : IsBytes code → (pc op count : ℕ) (operands rest : List ℕ) (after : ℕ) (here : List Site) (o : Option SiteForm) → site_form op ≡ o → FitsAt pc (Plain op operands) → Stands code pc (op ∷ (operands ++ rest)) after → count ≤ 1000000 → sites_by pool begin code o pc count ≡ Ok here
+        → AreFormed constants o pc operands here × Few count here
+    formed_found bytes pc op count operands rest after here None is fits s le e =
+        subst (λ (l : List Site). (l ≡ []) × Few count l) (ok_is [] here e) (refl, omega arith)
+    formed_found bytes pc op count [] rest after here (Some form) is fits s le e =
+        let bad = sym (called_long op form is).1 ∙ fits in absurd cc
+    formed_found bytes pc op count (a ∷ []) rest after here (Some form) is fits s le e =
+        let bad = sym (called_long op form is).1 ∙ fits in absurd cc
+    formed_found bytes pc op count (a ∷ b ∷ more) rest after here (Some form) is fits s le e =
+        let found = bind_ok (site_at pool begin code form pc count) _ here e in
+        let site = site_found form pc count found.0 found.1 in
+        let operand = found_operand bytes pc op a b more rest after fits s in
+        let with_index : IsSiteWith constants form pc (a ∷ b ∷ more) found.0 = record { index = operand.index; more = more; few = operand.few; spelled = operand.spelled; site = subst (λ (n : ℕ). IsSite constants form pc n found.0) operand.read_is site.0 } in
+        let lt = site.1 in
+        subst (λ (l : List Site). AreFormed constants (Some form) pc (a ∷ b ∷ more) l × Few count l) (ok_is (found.0 ∷ []) here found.2) ((found.0, refl, with_index), omega arith)
+
+    formed_only : (pc op count : ℕ) (operands rest : List ℕ) (after : ℕ) (here : List Site) (o : Option SiteForm) → FitsAt pc (Plain op operands) → Stands code pc (op ∷ (operands ++ rest)) after → Few count here → AreFormed constants o pc operands here → sites_by pool begin code o pc count ≡ Ok here
+    formed_only pc op count operands rest after here None fits s few is = ap (λ (l : List Site). Ok l) (sym is)
+    formed_only pc op count operands rest after here (Some form) fits s few is =
+        let site = is.2 in
+        let operand = operand_for pc op operands site.index site.more rest after site.few site.spelled fits s in
+        let one : length here ≡ 1 = ap length is.1 in
+        let lt : count < 1000000 = omega arith in
+        let read = site_only form pc count is.0 lt (subst (λ (n : ℕ). IsSite constants form pc n is.0) (sym operand) site.site) in
+        rw read (ap (λ (l : List Site). Ok l) (sym is.1))
+
+    -- what is read at an opcode
+    by_opcode : (pc op count : ℕ) (here : List Site) → get_or code pc 0 ≡ op → sites_at pool begin code pc count ≡ Ok here → (is_unread op ≡ false) × (sites_by pool begin code (site_form op) pc count ≡ Ok here)
+    unfolding sites_at
+    by_opcode pc op count here is e =
+        let a = bind_ok (unless_broken (not (is_unread (get_or code pc 0))) (fault (begin + pc) 0 NotBuilt)) _ here e in
+        (ap is_unread (sym is) ∙ not_true _ (kept_ok _ _ a.0 a.1), subst (λ (n : ℕ). sites_by pool begin code (site_form n) pc count ≡ Ok here) is a.2)
+      where
+        not_true : (b : Bool) → not b ≡ true → b ≡ false
+        not_true true e = absurd cc
+        not_true false e = refl
+
+    at_opcode_only : (pc op count : ℕ) (here : List Site) → get_or code pc 0 ≡ op → is_unread op ≡ false → sites_by pool begin code (site_form op) pc count ≡ Ok here → sites_at pool begin code pc count ≡ Ok here
+    unfolding sites_at
+    at_opcode_only pc op count here is read e = rw (is, read, e) refl
+
+    no_sites : (pc op count : ℕ) (f : Form) (here : List Site) → get_or code pc 0 ≡ op → IsShortForm f → form_of op ≡ Some f → count ≤ 1000000 → sites_at pool begin code pc count ≡ Ok here → (here ≡ []) × Few count here
+    no_sites pc op count f here at short is le e =
+        let r = by_opcode pc op count here at e in
+        let none = subst (λ (o : Option SiteForm). sites_by pool begin code o pc count ≡ Ok here) (no_call op f short is) r.1 in
+        subst (λ (l : List Site). (l ≡ []) × Few count l) (ok_is [] here none) (refl, omega arith)
+
+    none_only : (pc op count : ℕ) (f : Form) (here : List Site) → get_or code pc 0 ≡ op → IsShortForm f → form_of op ≡ Some f → here ≡ [] → sites_at pool begin code pc count ≡ Ok here
+    none_only pc op count f here at short is none =
+        at_opcode_only pc op count here at (all_read op f short is) (rw (no_call op f short is) (ap (λ (l : List Site). Ok l) (sym none)))
+
+    pub instruction_found : IsBytes code → (pc count : ℕ) (i : Instruction) (rest : List ℕ) (after : ℕ) (here : List Site) → FitsAt pc i → Stands code pc (instruction i ++ rest) after → count ≤ 1000000 → sites_at pool begin code pc count ≡ Ok here → AreSitesOf constants pc i here × Few count here
+    instruction_found bytes pc count (Plain op operands) rest after here fits s le e =
+        let r = by_opcode pc op count here (opcode_is code pc op (operands ++ rest) after s) e in
+        let f = formed_found bytes pc op count operands rest after here (site_form op) refl fits s le r.1 in
+        ((r.0, f.0), f.1)
+    instruction_found bytes pc count (TableSwitch op pad default low high offsets) rest after here fits s le e =
+        no_sites pc op count Table here (opcode_is code pc op _ after s) tt fits.0 le e
+    instruction_found bytes pc count (LookupSwitch op pad default pairs_count pairs) rest after here fits s le e =
+        no_sites pc op count Lookup here (opcode_is code pc op _ after s) tt fits.0 le e
+    instruction_found bytes pc count (Widened op inner operands) rest after here fits s le e =
+        no_sites pc op count Wide here (opcode_is code pc op _ after s) tt fits.0 le e
+
+    pub instruction_only : (pc count : ℕ) (i : Instruction) (rest : List ℕ) (after : ℕ) (here : List Site) → FitsAt pc i → Stands code pc (instruction i ++ rest) after → Few count here → AreSitesOf constants pc i here → sites_at pool begin code pc count ≡ Ok here
+    instruction_only pc count (Plain op operands) rest after here fits s few is =
+        at_opcode_only pc op count here (opcode_is code pc op (operands ++ rest) after s) is.0 (formed_only pc op count operands rest after here (site_form op) fits s few is.1)
+    instruction_only pc count (TableSwitch op pad default low high offsets) rest after here fits s few is =
+        none_only pc op count Table here (opcode_is code pc op _ after s) tt fits.0 is
+    instruction_only pc count (LookupSwitch op pad default pairs_count pairs) rest after here fits s few is =
+        none_only pc op count Lookup here (opcode_is code pc op _ after s) tt fits.0 is
+    instruction_only pc count (Widened op inner operands) rest after here fits s few is =
+        none_only pc op count Wide here (opcode_is code pc op _ after s) tt fits.0 is
+
+    -- ---- the sites of the whole code
+    pub record FoundSites (pc count : ℕ) (sites : List Site) : Type 0 where
+      pub instrs : List Instruction
+      pub stands : Stands code pc (flat_map instruction instrs) (length code)
+      pub fits : FitFrom pc instrs
+      pub sites_are : AreSites constants pc instrs sites
+      pub few : count + length sites ≤ 1000000
+
+    opcode_ok : {A : Type 0} (at : ℕ) (r : Result A CodeRule) (x : A) → at_opcode at r ≡ Ok x → r ≡ Ok x
+    opcode_ok at (Ok y) x e = ap (λ (z : _). Ok z) (ok_is y x e)
+    opcode_ok at (Err rule) x e = absurd cc
+
+    -- the sites of an instruction, and of those after it
+    sites_more : IsBytes code → (pc count next : ℕ) (here others : List Site) → count ≤ 1000000 → FoundAt code pc next → sites_at pool begin code pc count ≡ Ok here → (count + length here ≤ 1000000 → FoundSites next (count + length here) others) → FoundSites pc count (here ++ others)
+    sites_more bytes pc count next here others le first e rest =
+        let i = first.instr in
+        let whole = subst (λ (l : List ℕ). Stands code pc l next) (sym (append-nil (instruction i))) first.stands in
+        let found = instruction_found bytes pc count i [] next here first.fits whole le e in
+        let below = rest found.1 in
+        let at : next ≡ pc + length (instruction i) = first.stands.ends in
+        record {
+          instrs = i ∷ below.instrs;
+          stands = stands_first code pc next (length code) i below.instrs first.stands below.stands;
+          fits = (first.fits, subst (λ (n : ℕ). FitFrom n below.instrs) at below.fits);
+          sites_are = (here, others, refl, found.0, subst (λ (n : ℕ). AreSites constants n below.instrs others) at below.sites_are);
+          few = (let few = below.few in omega (arith, few, length-append here others));
+        }
+
+    pub sites_found : IsBytes code → (fuel pc count : ℕ) (sites : List Site) → count ≤ 1000000 → sites_from pool begin code fuel pc count ≡ Ok sites → FoundSites pc count sites
+    unfolding sites_from
+    sites_found bytes zero pc count sites le e = absurd cc
+    sites_found bytes (suc fuel) pc count sites le e =
+        elim (chosen (eqb (length code) pc) _ _ _ e) [
+          | inl end ↦ (
+              let here : length code ≡ pc = eqb-true _ _ end.0 in
+              let stands = subst (λ (n : ℕ). Stands code n [] (length code)) here (Stands-none code (length code) (omega arith)) in
+              subst (λ (l : List Site). FoundSites pc count l) (ok_is [] sites end.1) (record { instrs = []; stands = stands; fits = tt; sites_are = refl; few = omega arith })
+              )
+          | inr more ↦ (
+              let a = bind_ok (at_opcode (begin + pc) (next_at code pc)) _ sites more.1 in
+              let b = bind_ok (sites_at pool begin code pc count) _ sites a.2 in
+              let c = bind_ok (sites_from pool begin code fuel a.0 (count + length b.0)) _ sites b.2 in
+              let first = next_found code bytes pc a.0 (opcode_ok (begin + pc) (next_at code pc) a.0 a.1) in
+              subst (λ (l : List Site). FoundSites pc count l) (ok_is (b.0 ++ c.0) sites c.2) (sites_more bytes pc count a.0 b.0 c.0 le first b.1 (λ few. sites_found bytes fuel a.0 (count + length b.0) c.0 few c.1))
+              )
+        ]
+
+    pub sites_only : (fuel pc count : ℕ) (is : List Instruction) (sites : List Site) → length code < fuel + pc → FitFrom pc is → AreSites constants pc is sites → count + length sites ≤ 1000000 → Stands code pc (flat_map instruction is) (length code) → sites_from pool begin code fuel pc count ≡ Ok sites
+    unfolding sites_from
+    sites_only zero pc count is sites lt fit are few s = let within = s.ends in absurd (omega arith)
+    sites_only (suc fuel) pc count [] sites lt fit are few s =
+        let here : eqb (length code) pc ≡ true = (let e = s.ends in grind (arith, nat_tests)) in
+        rw here (ap (λ (l : List Site). Ok l) (sym are))
+    sites_only (suc fuel) pc count (i ∷ is) sites lt fit (here, others, joined, at, rest) few s =
+        let stands = subst (λ (l : List ℕ). Stands code pc l (length code)) (flat_map-cons instruction i is) s in
+        let some = some_byte i in
+        let after = Stands-back (instruction i) (flat_map instruction is) stands in
+        let more : eqb (length code) pc ≡ false = not_end code pc (length (instruction i)) (length (flat_map instruction is)) (length code) some after.ends in
+        let next = next_only code pc i (flat_map instruction is) (length code) fit.0 stands in
+        let many : length sites ≡ length here + length others = ap length joined ∙ length-append here others in
+        let first = instruction_only pc count i (flat_map instruction is) (length code) here fit.0 stands (omega arith) at in
+        let below : length code < fuel + (pc + length (instruction i)) = further code (length code) fuel pc (length (instruction i)) lt some in
+        let last = sites_only fuel (pc + length (instruction i)) (count + length here) is others below fit.1 rest (omega arith) after in
+        rw (more, next, first, last) (ap (λ (l : List Site). Ok l) (sym joined))
+
+    -- ---- the first fault
+
+    -- an instruction breaks a rule, or its site does; all before it, with their sites, are spelled by the grammar
+    pub record BrokenFrom (pc count : ℕ) (f : ClassFault) : Type 0 where
+      pub before : List Instruction
+      pub sites : List Site
+      pub at : ℕ
+      pub stands : Stands code pc (flat_map instruction before) at
+      pub fits : FitFrom pc before
+      pub sites_are : AreSites constants pc before sites
+      pub few : count + length sites ≤ 1000000
+      pub within : at < length code
+      pub broken : (at_opcode (begin + at) (next_at code at) >>= λ next. sites_at pool begin code at (count + length sites)) ≡ Err f
+
+    at_once : (pc count : ℕ) (f : ClassFault) → count ≤ 1000000 → pc < length code → (at_opcode (begin + pc) (next_at code pc) >>= λ next. sites_at pool begin code pc count) ≡ Err f → BrokenFrom pc count f
+    at_once pc count f le within e = record {
+      before = [];
+      sites = [];
+      at = pc;
+      stands = Stands-none code pc (omega arith);
+      fits = tt;
+      sites_are = refl;
+      few = omega arith;
+      within = within;
+      broken = (let none : count ≡ count + 0 = omega arith in subst (λ (n : ℕ). (at_opcode (begin + pc) (next_at code pc) >>= λ next. sites_at pool begin code pc n) ≡ Err f) none e);
+    }
+
+    later : IsBytes code → (pc count next : ℕ) (here : List Site) (f : ClassFault) → count ≤ 1000000 → FoundAt code pc next → sites_at pool begin code pc count ≡ Ok here → (count + length here ≤ 1000000 → BrokenFrom next (count + length here) f) → BrokenFrom pc count f
+    later bytes pc count next here f le first e rest =
+        let i = first.instr in
+        let whole = subst (λ (l : List ℕ). Stands code pc l next) (sym (append-nil (instruction i))) first.stands in
+        let found = instruction_found bytes pc count i [] next here first.fits whole le e in
+        let below = rest found.1 in
+        let at : next ≡ pc + length (instruction i) = first.stands.ends in
+        let many : count + length here + length below.sites ≡ count + length (here ++ below.sites) = omega (arith, length-append here below.sites) in
+        record {
+          before = i ∷ below.before;
+          sites = here ++ below.sites;
+          at = below.at;
+          stands = stands_first code pc next below.at i below.before first.stands below.stands;
+          fits = (first.fits, subst (λ (n : ℕ). FitFrom n below.before) at below.fits);
+          sites_are = (here, below.sites, refl, found.0, subst (λ (n : ℕ). AreSites constants n below.before below.sites) at below.sites_are);
+          few = subst (λ (n : ℕ). n ≤ 1000000) many below.few;
+          within = below.within;
+          broken = subst (λ (n : ℕ). (at_opcode (begin + below.at) (next_at code below.at) >>= λ next. sites_at pool begin code below.at n) ≡ Err f) many below.broken;
+        }
+
+    before_end : (len pc : ℕ) → pc ≤ len → eqb len pc ≡ false → pc < len
+    before_end len pc le e = grind (arith, nat_tests)
+
+    pub sites_broken : IsBytes code → (fuel pc count : ℕ) (f : ClassFault) → length code < fuel + pc → pc ≤ length code → count ≤ 1000000 → sites_from pool begin code fuel pc count ≡ Err f → BrokenFrom pc count f
+    unfolding sites_from
+    sites_broken bytes zero pc count f lt le few e = absurd (omega arith)
+    sites_broken bytes (suc fuel) pc count f lt le few e =
+        elim (chosen (eqb (length code) pc) _ _ _ e) [
+          | inl end ↦ absurd (ok_or_err [] f end.1)
+          | inr more ↦ elim (bind_err (at_opcode (begin + pc) (next_at code pc)) _ f more.1) [
+            | inl here ↦ at_once pc count f few (before_end (length code) pc le more.0) (rw here refl)
+            | inr there ↦ elim (bind_err (sites_at pool begin code pc count) _ f there.2) [
+              | inl site ↦ at_once pc count f few (before_end (length code) pc le more.0) (rw (there.1, site) refl)
+              | inr found ↦ elim (bind_err (sites_from pool begin code fuel there.0 (count + length found.0)) _ f found.2) [
+                | inl below ↦ (
+                    let first = next_found code bytes pc there.0 (opcode_ok (begin + pc) (next_at code pc) there.0 there.1) in
+                    let some = some_byte first.instr in
+                    let next : there.0 ≡ pc + length (instruction first.instr) = first.stands.ends in
+                    let still : length code < fuel + there.0 = subst (λ (n : ℕ). length code < fuel + n) (sym next) (further code (length code) fuel pc (length (instruction first.instr)) lt some) in
+                    later bytes pc count there.0 found.0 f few first found.1 (λ less. sites_broken bytes fuel there.0 (count + length found.0) f still first.stands.within less below)
+                    )
+                | inr none ↦ absurd (ok_or_err (found.0 ++ none.0) f none.2)
+              ]
+            ]
+          ]
+        ]

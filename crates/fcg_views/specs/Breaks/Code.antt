@@ -1,0 +1,90 @@
+-- The code of a method (JVMS 4.7.3), with its sites. All places are counted from the file's start but those of the
+-- instructions, which are counted from the code's.
+use Rattle.std.specs.Prelude.{ℕ, zero, suc, ◌+◌, List, [], ◌∷◌, ◌++◌, length, slice_index, not, ◌&&◌, nat_le, nat_lt, Option, Some, None, Result, Ok, Err, ◌==◌, if◌then◌else◌}
+use Rattle.fcg_grammar.specs.Reading.{◌>>=◌, unless_broken}
+use Rattle.fcg_grammar.specs.Rows.{rows, ended}
+use Rattle.fcg_views.specs.declared.view.Site.{Site}
+use Rattle.fcg_views.specs.declared.fault.ClassFault.{ClassFault}
+use Rattle.fcg_views.specs.declared.fault.ClassRule.TheVariants.{WrongKind, EmptyName, Descriptor, CodeLength, CodeCut, ManySites, Trailing, NotBuilt}
+use Rattle.fcg_views.specs.ClassFile.{is_one_of}
+use Rattle.fcg_views.specs.DescSteps.{is_descriptor}
+use Rattle.fcg_views.specs.Sites.{SiteForm, site_form, is_unread}
+use Rattle.fcg_views.specs.Breaks.Fault.{fault, at_place, at_opcode}
+use Rattle.fcg_views.specs.Breaks.Number.{u2_at, u4_at, part_at}
+use Rattle.fcg_views.specs.Breaks.Pool.{Entries, Reference, reference_of}
+use Rattle.fcg_views.specs.Breaks.Instructions.{next_at, operand_at}
+use Rattle.fcg_views.specs.Breaks.Attributes.{attributes_at}
+
+-- the method that an index names, by a constant of one of these tags; a fault is at a place
+unfoldable pub callee_of : Entries → List ℕ → ℕ → ℕ → Result Reference ClassFault
+callee_of pool tags at index = do
+  r ← at_place at index (reference_of pool index)
+  allowed ← unless_broken (is_one_of tags r.tag) (fault at index WrongKind)
+  owned ← unless_broken (nat_lt 0 (length r.owner)) (fault at 0 EmptyName)
+  named ← unless_broken (nat_lt 0 (length r.name)) (fault at 0 EmptyName)
+  typed ← unless_broken (is_descriptor r.desc) (fault at 0 Descriptor)
+  Ok r
+
+-- the site at a place of the code that names a method
+abbrev pub site_of : SiteForm → ℕ → Reference → Site
+site_of form pc r = record {
+  pc = pc;
+  kind = form.kind;
+  target = record { owner = r.owner; owner_is_interface_ref = r.tag == 11; name = r.name; desc = r.desc };
+}
+
+-- The code that begins at a place of the file. So many sites of the class are before the ones that are read.
+module _ (pool : Entries) (begin : ℕ) (code : List ℕ) where
+  unfoldable pub site_at : SiteForm → ℕ → ℕ → Result Site ClassFault
+  site_at form pc count = do
+    r ← callee_of pool form.tags (begin + pc) (operand_at code pc)
+    counted ← unless_broken (nat_lt count 1000000) (fault (begin + pc) 0 ManySites)
+    Ok (site_of form pc r)
+
+  abbrev pub sites_by : Option SiteForm → ℕ → ℕ → Result (List Site) ClassFault
+  sites_by None pc count = Ok []
+  sites_by (Some form) pc count = site_at form pc count >>= λ s. Ok (s ∷ [])
+
+  -- the sites of the instruction whose opcode is at a place of the code
+  unfoldable pub sites_at : ℕ → ℕ → Result (List Site) ClassFault
+  sites_at pc count = do
+    known ← unless_broken (not (is_unread (slice_index code pc))) (fault (begin + pc) 0 NotBuilt)
+    sites_by (site_form (slice_index code pc)) pc count
+
+  -- The sites of the instructions from a place on, up to the code's end. The first number bounds the instructions: it
+  -- never runs out where it is above the number of the bytes that are left.
+  unfoldable pub sites_from : ℕ → ℕ → ℕ → Result (List Site) ClassFault
+  sites_from zero pc count = Err (fault (begin + pc) 0 CodeCut)
+  sites_from (suc fuel) pc count =
+      if length code == pc then Ok [] else (do
+        next ← at_opcode (begin + pc) (next_at code pc)
+        here ← sites_at pc count
+        others ← sites_from fuel next (count + length here)
+        Ok (here ++ others))
+
+  abbrev pub sites_of : ℕ → Result (List Site) ClassFault
+  sites_of count = sites_from (1 + length code) 0 count
+
+-- a row of the exception table
+unfoldable pub handler_at : List ℕ → ℕ → ℕ → Result (Unit {0} × ℕ) ClassFault
+handler_at bytes k at = part_at bytes at 8 0 >>= λ row. Ok (tt, at + 8)
+
+-- the place after the exception table whose count stands at a place
+unfoldable pub handlers_at : List ℕ → ℕ → Result ℕ ClassFault
+handlers_at bytes at = do
+  count ← u2_at bytes at 0
+  ended (rows (handler_at bytes) count 0 (at + 2))
+
+-- what stands from a place up to the end of the content: the sites of the code
+unfoldable pub code_at : Entries → ℕ → ℕ → Result (List Site) ClassFault
+code_at pool at count = do
+  stack ← u2_at pool.bytes at 0
+  locals ← u2_at pool.bytes (at + 2) 0
+  n ← u4_at pool.bytes (at + 4) 0
+  sized ← unless_broken (nat_le 1 n && nat_le n 65535) (fault (at + 4) 0 CodeLength)
+  code ← part_at pool.bytes (at + 8) n 0
+  sites ← sites_of pool (at + 8) code count
+  after_handlers ← handlers_at pool.bytes (at + 8 + n)
+  after ← attributes_at pool after_handlers
+  ended ← unless_broken (length pool.bytes == after) (fault after 0 Trailing)
+  Ok sites

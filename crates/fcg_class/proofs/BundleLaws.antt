@@ -1,46 +1,37 @@
 -- Bundles: what is read is spelled so, and what is spelled so is read. So each string of bytes has one content, or one
 -- fault.
-use Rattle.std.proofs.Common.{◌≡◌, ℕ, ◌+◌, ◌^◌, ◌<◌, ◌≤◌, Bool, true, false, cond, not, eqb, leb, ◌&&◌, List, [], ◌∷◌, ◌++◌, length, map, drop, refl, sym, ap, subst, ◌∙◌, append_assoc, arith}
+use Rattle.std.proofs.Common.{◌≡◌, ℕ, ◌+◌, ◌-◌, ◌^◌, ◌<◌, ◌≤◌, Bool, true, false, cond, not, eqb, leb, ◌&&◌, List, [], ◌∷◌, ◌++◌, length, map, refl, sym, ap, subst, ◌∙◌, append_assoc, arith}
 use Rattle.std.specs.Prelude.{Result, Ok, Err, IfOk}
-use Rattle.std.specs.Bool.{Decides}
 use Rattle.std.specs.List.{flat_map, list_any, All, AllZip}
-use Rattle.std.proofs.lemmas.Bool.{eqb-true, and_parts}
-use Rattle.std.proofs.lemmas.Bool.Decides.{nat_tests, Decides-eqb}
-use Rattle.std.proofs.lemmas.List.{append-nil, get_or-drop, length-append}
+use Rattle.std.proofs.lemmas.Bool.{eqb-true, leb-true, le-leb, and_parts}
+use Rattle.std.proofs.lemmas.Bool.Decides.{nat_tests}
+use Rattle.std.proofs.lemmas.List.{append-nil, length-append}
 use Rattle.std.proofs.lemmas.List.Elements.{All-from_recursion}
+use Rattle.std.proofs.lemmas.List.Sums.{sum_by-cons}
 use Rattle.std.proofs.lemmas.Map.Made.{AllPairs-from_IsDistinct, IsDistinct-from_AllPairs}
-use Rattle.std.proofs.lemmas.Slice.Eq.{slice_eq-Decides}
 use Rattle.fcg_grammar.specs.declared.error.ReadError.{ReadError}
-use Rattle.fcg_grammar.specs.Number as number
 use Rattle.fcg_grammar.specs.Number.{u2_at, u4_at, part_at}
 use Rattle.fcg_grammar.specs.Reading.{unless_broken, Gives}
 use Rattle.fcg_grammar.specs.Rows.{rows}
 use Rattle.fcg_grammar.specs.Spell.{IsBytes, u2, u4}
 use Rattle.fcg_grammar.proofs.LawLemmas.{bind_ok, kept_ok, ok_or_err}
-use Rattle.fcg_grammar.proofs.Limits.{IsBytes-take}
+use Rattle.fcg_grammar.proofs.Limits.{IsBytes-part}
 use Rattle.fcg_grammar.proofs.Standing.{Stands, Stands-then, Stands-front, ok_is, u2_found, u2_only, u4_found, u4_only, part_found, part_only, part_is, whole_is, is_whole}
 use Rattle.fcg_grammar.proofs.StateRowLaws.{Linked, FoundRow, rows_found, rows_only}
 use Rattle.fcg_views.specs.declared.view.View.{View}
 use Rattle.fcg_views.specs.declared.fault.ClassFault.{ClassFault}
 use Rattle.fcg_views.specs.Reads.{Reads}
-use Rattle.fcg_views.specs.Valid.{IsValid}
+use Rattle.fcg_views.specs.Valid.{site_count, sites_of_all, IsValid}
 use Rattle.fcg_views.specs.Breaks.Class.{class_of}
 use Rattle.fcg_laws.proofs.ClassLaws.{class_found, class_only}
 use Rattle.fcg_laws.proofs.Fresh.{IsFresh, AreFresh, distinct_found, distinct_only}
 use Rattle.fcg_laws.proofs.Places.{closed}
+use Rattle.fcg_laws.proofs.WordLaws.{same_text}
 use Rattle.fcg_laws.proofs.ValidLaws.{reads_valid, zip_right}
 use Rattle.fcg_class.specs.declared.bundle.BundleFault.{BundleFault}
 use Rattle.fcg_class.specs.declared.bundle.BundleFault.TheVariants.{Jar, NotBuilt}
 use Rattle.fcg_class.specs.Path.{is_path, is_class_path}
 use Rattle.fcg_class.specs.Bundle.{Entry, entry, bundle, IsEntryOf, Content, is_same, path_at, built, body_at, Begun, entry_at, entries_of, is_jar, bundle_of, BundleVerdict, IsContent, IsBroken}
-
--- ---- parts of a string of bytes
-
-IsBytes-drop : (n : ℕ) (bytes : List ℕ) → IsBytes bytes → IsBytes (drop n bytes)
-IsBytes-drop n bytes fits i = rw get_or-drop (fits (n + i))
-
-IsBytes-part : (bytes : List ℕ) (at n : ℕ) (text : List ℕ) → IsBytes bytes → number.part bytes at n ≡ text → IsBytes text
-IsBytes-part bytes at n text fits e = subst (λ (l : List ℕ). IsBytes l) e (IsBytes-take n (drop at bytes) (IsBytes-drop at bytes fits))
 
 built_ok : (r : Result View ClassFault) (v : View) → built r ≡ Ok v → r ≡ Ok v
 built_ok (Ok w) v e = let same : w ≡ v = ok_is w v e in ap (λ (x : View). Ok x) same
@@ -59,9 +50,6 @@ short_path path e =
     short : (n : ℕ) → leb n 1024 ≡ true → n < 2 ^ 16
     short n le = let lt : n ≤ 1024 = grind (arith, nat_tests) in omega arith
 
-same_path : (p q : List ℕ) → Decides (is_same p q) (p ≡ q)
-same_path p q = slice_eq-Decides Decides-eqb p q (is_same p q) refl
-
 -- an entry's listing ends with nothing
 listed : (e : Entry) → u2 (length e.path) ++ (e.path ++ (u4 (length e.body) ++ e.body)) ≡ entry e
 listed e = ap (λ (l : List ℕ). u2 (length e.path) ++ (e.path ++ (u4 (length e.body) ++ l))) (sym (append-nil e.body))
@@ -75,10 +63,12 @@ reopened e rest = ap (λ (l : List ℕ). l ++ rest) (sym (listed e)) ∙ ap (λ 
 entry_length : (e : Entry) → length (entry e) ≡ 2 + length e.path + 4 + length e.body
 entry_length e = ap length (sym (listed e)) ∙ omega (arith, length-append e.path (u4 (length e.body) ++ e.body))
 
--- from entry to entry, with the paths before
+-- from entry to entry, with the paths before and the sites that may still come
 record MeansEntry (s : Begun) (e : Entry) (v : View) (next : Begun) : Type 0 where
   is : IsEntryOf e v
   fresh : IsFresh is_same s.paths e.path
+  few : site_count v.methods ≤ s.room
+  room : next.room ≡ s.room - site_count v.methods
   at : next.at ≡ s.at + length (entry e)
   paths : next.paths ≡ s.paths ++ e.path ∷ []
 
@@ -149,16 +139,19 @@ module _ (bytes : List ℕ) (fits : IsBytes bytes) where
       let a = bind_ok (path_at bytes s.at) _ x e in
       let b = bind_ok (unless_broken (not (list_any (λ p. is_same p a.0.0) s.paths)) NotBuilt) _ x a.2 in
       let c = bind_ok (body_at bytes a.0.1) _ x b.2 in
+      let d = bind_ok (unless_broken (leb (site_count c.0.0.methods) s.room) NotBuilt) _ x c.2 in
       let path = path_found s.at a.0 a.1 in
       let body = body_found a.0.1 c.0 c.1 in
       let row : Entry = record { path = a.0.0; body = body.body } in
       let whole = listed_at row (Stands-then path.stands body.stands) in
-      subst (λ (y : View × Begun). FoundRow bytes place entry MeansEntry (entry_at bytes) s y.0 y.1) (ok_is _ x c.2) (record {
+      subst (λ (y : View × Begun). FoundRow bytes place entry MeansEntry (entry_at bytes) s y.0 y.1) (ok_is _ x d.2) (record {
         row = row;
         stands = whole;
         meant = record {
           is = record { path = path.kept; class = path.class; few = body.few; reads = body.reads };
           fresh = not_true _ (kept_ok _ _ b.0 b.1);
+          few = leb-true _ _ (kept_ok _ _ d.0 d.1);
+          room = refl;
           at = whole.ends;
           paths = refl;
         };
@@ -172,7 +165,8 @@ module _ (bytes : List ℕ) (fits : IsBytes bytes) where
       let path = path_only s.at e.path (u4 (length e.body) ++ (e.body ++ rest)) after is.is.path is.is.class here in
       let body = body_only (s.at + 2 + length e.path) e.body v rest after is.is.few is.is.reads path.1 in
       let end : s.at + 2 + length e.path + 4 + length e.body ≡ next.at = omega (arith, entry_length e, is.at) in
-      (rw (path.0, is.fresh, body, end, ← is.paths) refl, is.at)
+      let few : leb (site_count v.methods) s.room ≡ true = le-leb _ _ is.few in
+      (rw (path.0, is.fresh, body, few, end, ← is.paths, ← is.room) refl, is.at)
 
   -- ---- along the entries
 
@@ -187,19 +181,35 @@ module _ (bytes : List ℕ) (fits : IsBytes bytes) where
       let below = follow_found l.0 es vs end l.2 in
       ((l.1.is, below.0), (l.1.fresh, subst (λ (p : List (List ℕ)). AreFresh is_same p (map (λ e. e.path) es)) l.1.paths below.1))
 
-  follow_only : (s : Begun) (es : List Entry) (vs : List View) → AllZip IsEntryOf es vs → AreFresh is_same s.paths (map (λ e. e.path) es) → (end : Begun) × Follow s es vs end
-  follow_only s [] [] z f = (s, refl)
-  follow_only s [] (v ∷ vs) z f = absurd z
-  follow_only s (e ∷ es) [] z f = absurd z
-  follow_only s (e ∷ es) (v ∷ vs) z f =
-      let next : Begun = record { at = s.at + length (entry e); paths = s.paths ++ e.path ∷ [] } in
-      let below = follow_only next es vs z.1 f.1 in
-      (below.0, (next, record { is = z.0; fresh = f.0; at = refl; paths = refl }, below.1))
+  -- the sites of a view more
+  one_more : (v : View) (vs : List View) → sites_of_all (v ∷ vs) ≡ site_count v.methods + sites_of_all vs
+  one_more v vs = sum_by-cons (λ (w : View). site_count w.methods) v vs
+
+  follow_few : (s : Begun) (es : List Entry) (vs : List View) (end : Begun) → Follow s es vs end → sites_of_all vs ≤ s.room
+  follow_few s [] [] end l = omega arith
+  follow_few s [] (v ∷ vs) end l = absurd l
+  follow_few s (e ∷ es) [] end l = absurd l
+  follow_few s (e ∷ es) (v ∷ vs) end (next, is, more) =
+      let below = follow_few next es vs end more in
+      let few = is.few in
+      let room = is.room in
+      omega (arith, one_more v vs, below, few, room)
+
+  follow_only : (s : Begun) (es : List Entry) (vs : List View) → AllZip IsEntryOf es vs → AreFresh is_same s.paths (map (λ e. e.path) es) → sites_of_all vs ≤ s.room → (end : Begun) × Follow s es vs end
+  follow_only s [] [] z f few = (s, refl)
+  follow_only s [] (v ∷ vs) z f few = absurd z
+  follow_only s (e ∷ es) [] z f few = absurd z
+  follow_only s (e ∷ es) (v ∷ vs) z f few =
+      let next : Begun = record { at = s.at + length (entry e); paths = s.paths ++ e.path ∷ []; room = s.room - site_count v.methods } in
+      let here : site_count v.methods ≤ s.room = omega (arith, one_more v vs, few) in
+      let left : sites_of_all vs ≤ s.room - site_count v.methods = omega (arith, one_more v vs, few) in
+      let below = follow_only next es vs z.1 f.1 left in
+      (below.0, (next, record { is = z.0; fresh = f.0; few = here; room = refl; at = refl; paths = refl }, below.1))
 
   entries_found : (views : List View) → entries_of bytes ≡ Ok views → Content bytes views
   unfolding entries_of
   entries_found views e =
-      let begun : Begun = record { at = 10; paths = [] } in
+      let begun : Begun = record { at = 10; paths = []; room = 4000000 } in
       let a = bind_ok (u4_at NotBuilt bytes 0) _ views e in
       let b = bind_ok (unless_broken (eqb a.0 0x46434742) NotBuilt) _ views a.2 in
       let c = bind_ok (u2_at NotBuilt bytes 4) _ views b.2 in
@@ -222,20 +232,21 @@ module _ (bytes : List ℕ) (fits : IsBytes bytes) where
         spelled = whole_is bytes (bundle r.table) (closed (u4 0x46434742 ++ (u2 1 ++ u4 (length r.table))) (flat_map entry r.table) whole);
         few = omega (arith, r.many, n.1);
         each = along.0;
-        distinct = AllPairs-from_IsDistinct same_path (map (λ e. e.path) r.table) (distinct_found is_same (map (λ e. e.path) r.table) along.1);
+        distinct = AllPairs-from_IsDistinct same_text (map (λ e. e.path) r.table) (distinct_found is_same (map (λ e. e.path) r.table) along.1);
+        few_sites = follow_few begun r.table g.0.0 g.0.1 r.meant;
       })
 
   entries_only : (views : List View) → Content bytes views → entries_of bytes ≡ Ok views
   unfolding entries_of
   entries_only views c =
-      let begun : Begun = record { at = 10; paths = [] } in
+      let begun : Begun = record { at = 10; paths = []; room = 4000000 } in
       let es : List Entry = c.entries in
       let paths : List (List ℕ) = map (λ e. e.path) es in
       let s = is_whole bytes (bundle es) c.spelled in
       let a = u4_only NotBuilt bytes 0 0x46434742 (u2 1 ++ (u4 (length es) ++ (flat_map entry es ++ []))) (length bytes) (omega arith) s in
       let b = u2_only NotBuilt bytes 4 1 (u4 (length es) ++ (flat_map entry es ++ [])) (length bytes) (omega arith) a.1 in
       let n = u4_only NotBuilt bytes 6 (length es) (flat_map entry es ++ []) (length bytes) c.few b.1 in
-      let along = follow_only begun es views c.each (distinct_only is_same paths (IsDistinct-from_AllPairs same_path paths c.distinct)) in
+      let along = follow_only begun es views c.each (distinct_only is_same paths (IsDistinct-from_AllPairs same_text paths c.distinct)) c.few_sites in
       let r = rows_only bytes place entry MeansEntry (entry_at bytes) entry_only 0 begun es views along.0 [] (length bytes) along.1 n.1 in
       let end : eqb (length bytes) along.0.at ≡ true = (let ends = r.1.ends in grind (arith, nat_tests)) in
       rw (a.0, b.0, n.0, r.0, end) refl

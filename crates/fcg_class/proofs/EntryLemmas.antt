@@ -1,5 +1,5 @@
 -- Reading the entries of a bundle, as a loop does.
-use Rattle.std.proofs.Common.{◌≡◌, ℕ, ◌+◌, ◌-◌, ◌<◌, arith, Bool, true, false, cond, not, ◌||◌, List, [], ◌∷◌, ◌++◌, refl, sym, ◌∙◌}
+use Rattle.std.proofs.Common.{◌≡◌, ℕ, ◌+◌, ◌-◌, ◌<◌, arith, Bool, true, false, cond, not, ◌||◌, leb, Some, None, List, [], ◌∷◌, ◌++◌, refl, sym, ◌∙◌}
 use Rattle.std.specs.Prelude.{Result, Ok, Err}
 use Rattle.std.specs.Borrow.{Bor}
 use Rattle.std.specs.List.{list_any}
@@ -10,14 +10,16 @@ use Rattle.std.specs.BTreeSet.{BTreeSet}
 use Rattle.std.proofs.lemmas.List.Folds.{list_any-append}
 use Rattle.fcg_grammar.specs.declared.error.ReadError.{ReadError}
 use Rattle.fcg_grammar.specs.declared.error.ReadError.TheVariants as errors
-use Rattle.fcg_grammar.specs.Reading.{Gives}
+use Rattle.fcg_grammar.specs.Reading.{Fails}
 use Rattle.fcg_grammar.specs.Rows.{rows}
 use Rattle.fcg_grammar.proofs.RowLemmas.{with_front, rows_go_on}
 use Rattle.fcg_views.specs.declared.view.View.{View}
+use Rattle.fcg_views.specs.Valid.{site_count, left_of}
+use Rattle.fcg_class.specs.declared.bundle.Ahead.{Ahead}
 use Rattle.fcg_class.specs.declared.bundle.BundleFault.{BundleFault}
 use Rattle.fcg_class.specs.declared.bundle.BundleFault.TheVariants.{NotBuilt}
 use Rattle.fcg_class.specs.Bundle.{Begun, is_same, path_at, body_at, entry_at}
-use Rattle.fcg_class.specs.Entries.{path_cmp, ArePaths, begun, GivesEntry}
+use Rattle.fcg_class.specs.Entries.{path_cmp, ArePaths, begun, start, GivesEntry}
 
 negated : (a b c : Bool) → a ≡ b → c ≡ not a → not c ≡ b
 negated true b c e f = rw f e
@@ -41,33 +43,42 @@ ArePaths-push old new before path are updates p =
     ∙ rw (← texts_ties path.now p.now, are p) (either (is_same path.now p.now) (list_any (λ q. is_same q p.now) before))
     ∙ sym (list_any-append (λ q. is_same q p.now) before (path.now ∷ []))
 
-pub entry_at-twice : (bytes : List ℕ) (k at : ℕ) (before : List (List ℕ)) (path : List ℕ) (after : ℕ) → path_at bytes at ≡ Ok (path, after) → true ≡ list_any (λ p. is_same p path) before → entry_at bytes k (begun at before) ≡ Err NotBuilt
+pub entry_at-twice : (bytes : List ℕ) (k : ℕ) (ahead : Ahead) (before : List (List ℕ)) (path : List ℕ) (after : ℕ) → path_at bytes ahead.at ≡ Ok (path, after) → true ≡ list_any (λ p. is_same p path) before → entry_at bytes k (begun ahead before) ≡ Err NotBuilt
 unfolding entry_at
-entry_at-twice bytes k at before path after p t = rw (p, ← t) refl
+entry_at-twice bytes k ahead before path after p t = rw (p, ← t) refl
 
-pub entry_at-read : (bytes : List ℕ) (k at : ℕ) (before : List (List ℕ)) (path : List ℕ) (after : ℕ) (set : BTreeSet (Bor (List ℕ))) (r : Result (View × ℕ) (ReadError BundleFault))
-    → path_at bytes at ≡ Ok (path, after) → false ≡ list_any (λ p. is_same p path) before → ArePaths set (before ++ path ∷ []) → Gives (λ (x : View × ℕ). (x.0, x.1)) r (body_at bytes after)
-    → GivesEntry r set before (entry_at bytes k (begun at before))
-unfolding entry_at
-entry_at-read bytes k at before path after set (Ok x) p t are given = (path, are, rw (p, ← t, given) refl)
-entry_at-read bytes k at before path after set (Err errors.NoMemory) p t are given = tt
-entry_at-read bytes k at before path after set (Err (errors.Fault f)) p t are given = rw (p, ← t, given) refl
+-- the path is read, and no earlier one is the same
+module _ (bytes : List ℕ) (k : ℕ) (ahead : Ahead) (before : List (List ℕ)) (path : List ℕ) (after : ℕ) (is : path_at bytes ahead.at ≡ Ok (path, after)) (fresh : false ≡ list_any (λ p. is_same p path) before) where
+  pub entry_at-broken : (e : ReadError BundleFault) → Fails e (body_at bytes after) → Fails e (entry_at bytes k (begun ahead before))
+  unfolding entry_at
+  entry_at-broken errors.NoMemory given = tt
+  entry_at-broken (errors.Fault f) given = rw (is, ← fresh, given) refl
+
+  pub entry_at-read : (view : View) (end room : ℕ) → body_at bytes after ≡ Ok (view, end) → left_of ahead.room (site_count view.methods) ≡ Some room → entry_at bytes k (begun ahead before) ≡ Ok (view, begun (record { at = end; room = room }) (before ++ path ∷ []))
+  unfolding entry_at
+  entry_at-read view end room given some =
+      let l = left (leb (site_count view.methods) ahead.room) _ room some in
+      rw (is, ← fresh, given, l.0, ← l.1) refl
+    where
+      left : (b : Bool) (n m : ℕ) → cond b (Some n) None ≡ Some m → (b ≡ true) × (m ≡ n)
+      left true n m e = (refl, cc)
+      left false n m e = absurd cc
 
 -- ---- the rows of entries, one after the other
 
 pub ArePaths-none : (set : BTreeSet (Bor (List ℕ))) → tree.IsEmpty set → ArePaths set []
 ArePaths-none set none p = rw none refl
 
-pub entries_begin : (bytes : List ℕ) (count at : ℕ) → with_front [] (rows (entry_at bytes) (count - 0) 0 (begun at [])) ≡ rows (entry_at bytes) count 0 (begun at [])
+pub entries_begin : (bytes : List ℕ) (count at : ℕ) → with_front [] (rows (entry_at bytes) (count - 0) 0 (start at)) ≡ rows (entry_at bytes) count 0 (start at)
 entries_begin bytes count at =
     let n : count - 0 ≡ count = omega arith in
-    rw n (front_none (rows (entry_at bytes) count 0 (begun at [])))
+    rw n (front_none (rows (entry_at bytes) count 0 (start at)))
   where
     front_none : {X S E : Type 0} (r : Result (List X × S) E) → with_front [] r ≡ r
     front_none (Ok x) = refl
     front_none (Err f) = refl
 
-pub entries_go_on : (bytes : List ℕ) (count k place : ℕ) (before : List (List ℕ)) (front : List View) (view : View) (after : ℕ) (set : BTreeSet (Bor (List ℕ))) (total : Result (List View × Begun) BundleFault) → k < count
+pub entries_go_on : (bytes : List ℕ) (count k : ℕ) (place : Ahead) (before : List (List ℕ)) (front : List View) (view : View) (after : Ahead) (set : BTreeSet (Bor (List ℕ))) (total : Result (List View × Begun) BundleFault) → k < count
     → GivesEntry (Ok (view, after)) set before (entry_at bytes k (begun place before)) → with_front front (rows (entry_at bytes) (count - k) k (begun place before)) ≡ total
     → (paths : List (List ℕ)) × ArePaths set paths × (with_front (front ++ view ∷ []) (rows (entry_at bytes) (count - (k + 1)) (k + 1) (begun after paths)) ≡ total)
 entries_go_on bytes count k place before front view after set total lt given so_far =

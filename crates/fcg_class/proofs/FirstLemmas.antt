@@ -9,7 +9,6 @@ use Rattle.std.specs.Cmp.Lexicographic.{pointwise, slice_cmp, texts_ties}
 use Rattle.std.specs.BTreeMap as tree
 use Rattle.std.specs.BTreeMap.{BTreeMap}
 use Rattle.std.proofs.lemmas.Bool.Decides.{Decides-eqb, not_from_Decides, same_from_decides}
-use Rattle.std.proofs.lemmas.Slice.Eq.{slice_eq-Decides}
 use Rattle.fcg_views.specs.Breaks.Pool.{Entries, Placed, constant_of, text_of}
 use Rattle.std.specs.Prelude.{slice_get}
 use Rattle.std.proofs.Math.ListN.{get_or-append}
@@ -19,10 +18,8 @@ use Rattle.fcg_grammar.proofs.LawLemmas.{ok_or_err}
 use Rattle.fcg_grammar.proofs.Standing.{ok_is}
 use Rattle.fcg_views.specs.declared.fault.PoolRule.{PoolRule}
 use Rattle.fcg_views.specs.declared.fault.PoolRule.TheVariants.{BadIndex}
+use Rattle.fcg_laws.proofs.WordLaws.{same_text}
 use Rattle.fcg_class.specs.Firsts.{AreFirsts, first_in, AreKnown, IsFirst, AreFound}
-
-pub same_text : (p q : List ℕ) → Decides (pointwise nat_eq p q) (p ≡ q)
-same_text p q = slice_eq-Decides Decides-eqb p q (pointwise nat_eq p q) refl
 
 -- Two texts are the same where their first indexes are.
 pub same_first : (pool : Entries) (firsts : List ℕ) → AreFirsts pool firsts → (i j : ℕ) (p q : List ℕ) → text_of pool i ≡ Ok p → text_of pool j ≡ Ok q

@@ -1,5 +1,5 @@
 -- Reading the entries of a bundle never gives the fault of a jar.
-use Rattle.std.proofs.Common.{◌≡◌, ℕ, zero, suc, ◌+◌, Bool, true, false, cond, not, ◌&&◌, eqb, List, [], length, sym, ap, ◌∙◌}
+use Rattle.std.proofs.Common.{◌≡◌, ℕ, zero, suc, ◌+◌, Bool, true, false, cond, not, ◌&&◌, eqb, leb, List, [], length, sym, ap, ◌∙◌}
 use Rattle.std.specs.List.{list_any}
 use Rattle.std.specs.Prelude.{Result, Ok, Err}
 use Rattle.fcg_grammar.specs.declared.error.ReadError.{ReadError}
@@ -11,6 +11,7 @@ use Rattle.fcg_grammar.proofs.LawLemmas.{whole, err_is, ok_or_err}
 use Rattle.fcg_views.specs.declared.view.View.{View}
 use Rattle.fcg_views.specs.declared.fault.ClassFault.{ClassFault}
 use Rattle.fcg_views.specs.Breaks.Class.{class_of}
+use Rattle.fcg_views.specs.Valid.{site_count}
 use Rattle.fcg_class.specs.declared.bundle.BundleFault.{BundleFault}
 use Rattle.fcg_class.specs.declared.bundle.BundleFault.TheVariants.{Jar, NotBuilt}
 use Rattle.fcg_class.specs.Path.{is_path, is_class_path}
@@ -73,7 +74,8 @@ unfolding entry_at
 entry_no_jar bytes k s =
     then (path_at bytes s.at) _ (path_no_jar bytes s.at) (λ path.
     rule (not (list_any (λ p. is_same p path.0) s.paths)) _ (λ u.
-    then (body_at bytes path.1) _ (body_no_jar bytes path.1) (λ body. ok_no_jar _)))
+    then (body_at bytes path.1) _ (body_no_jar bytes path.1) (λ body.
+    rule (leb (site_count body.0.methods) s.room) _ (λ v. ok_no_jar _))))
 
 rows_no_jar : {X S : Type 0} (read : ℕ → S → Result (X × S) BundleFault) → ((k : ℕ) (s : S) → IsNoJar (read k s)) → (n k : ℕ) (s : S) → IsNoJar (rows read n k s)
 rows_no_jar read each zero k s = ok_no_jar _
@@ -82,7 +84,7 @@ rows_no_jar read each (suc n) k s = then (read k s) _ (each k s) (λ first. then
 entries_no_jar : (bytes : List ℕ) → IsNoJar (entries_of bytes)
 unfolding entries_of
 entries_no_jar bytes =
-    let begun : Begun = record { at = 10; paths = [] } in
+    let begun : Begun = record { at = 10; paths = []; room = 4000000 } in
     then (u4_at NotBuilt bytes 0) _ (u4_no_jar bytes 0) (λ magic.
     rule (eqb magic 0x46434742) _ (λ u.
     then (u2_at NotBuilt bytes 4) _ (u2_no_jar bytes 4) (λ version.

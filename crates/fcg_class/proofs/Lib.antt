@@ -1,6 +1,9 @@
 pub mod FirstLemmas
 pub mod NameLemmas
+pub mod CodeLemmas
 pub mod MethodLemmas
+pub mod OverLemmas
+pub mod SiteLemmas
 pub mod PathLemmas
 pub mod EntryLemmas
 pub mod JarLemmas

@@ -1,5 +1,5 @@
 -- The set of signatures beside the list of methods.
-use Rattle.std.proofs.Common.{◌≡◌, ℕ, List, [], ◌∷◌, ◌++◌, Bool, true, false, cond, get_or, ◌&&◌, ◌||◌, ◌-◌, ◌+◌, ◌<◌, refl, sym, subst, ◌∙◌}
+use Rattle.std.proofs.Common.{◌≡◌, ℕ, List, [], ◌∷◌, ◌++◌, Bool, true, false, cond, get_or, ◌&&◌, ◌||◌, ◌-◌, ◌+◌, ◌<◌, ◌≤◌, length, refl, sym, subst, ◌∙◌}
 use Rattle.std.specs.Prelude.{Result, Ok, Err}
 use Rattle.std.specs.List.{list_any}
 use Rattle.std.specs.Ordering.{is_eq, nat_cmp, ordering_then}
@@ -8,14 +8,19 @@ use Rattle.std.specs.declared.cmp.Ordering.TheVariants.{Less, Equal, Greater}
 use Rattle.std.specs.BTreeSet as tree
 use Rattle.std.specs.BTreeSet.{BTreeSet}
 use Rattle.std.proofs.lemmas.List.Folds.{list_any-append}
+use Rattle.std.proofs.lemmas.List.Sums.{sum_by_push}
 use Rattle.fcg_views.specs.declared.view.Method.{Method}
+use Rattle.fcg_views.specs.Valid.{site_count}
+use Rattle.fcg_grammar.specs.declared.error.ReadError.{ReadError}
+use Rattle.fcg_grammar.specs.declared.error.ReadError.TheVariants as errors
+use Rattle.fcg_grammar.specs.Reading.{Fails}
 use Rattle.fcg_grammar.specs.Rows.{rows}
 use Rattle.fcg_grammar.proofs.RowLemmas.{with_front, rows_go_on}
 use Rattle.fcg_views.specs.declared.fault.ClassFault.{ClassFault}
 use Rattle.fcg_views.specs.declared.fault.ClassRule.TheVariants.{DoubleMethod}
 use Rattle.fcg_views.specs.Breaks.Fault.{fault}
 use Rattle.fcg_views.specs.Breaks.Pool.{Entries, text_of}
-use Rattle.fcg_views.specs.Breaks.Members.{Begun, attributes_at, declared_at, method_at}
+use Rattle.fcg_views.specs.Breaks.Members.{CodeBegun, Begun, method_attributes_at, or_none, with_sites, declared_at, method_at}
 use Rattle.fcg_class.specs.Members.{begun, GivesNext}
 use Rattle.fcg_class.proofs.FirstLemmas.{same_first}
 use Rattle.fcg_class.specs.Firsts.{AreFirsts}
@@ -47,6 +52,13 @@ AreSignatures-push pool firsts are old new methods i j m at_i at_j before update
     ∙ rw (same_signature pool firsts are i j x y m name desc at_i at_j at_x at_y, before x y name desc at_x at_y) (either (is_signature name desc m) (list_any (is_signature name desc) methods))
     ∙ sym (list_any-append (is_signature name desc) methods (m ∷ []))
 
+-- one more method, and its sites
+pub site_count-push : (sites n : ℕ) (methods : List Method) (m : Method) → sites ≡ site_count methods → n ≡ length m.sites → sites + n ≡ site_count (methods ++ m ∷ [])
+site_count-push sites n methods m counted size = rw (counted, size) (sym (sum_by_push (λ (x : Method). length x.sites) methods m))
+
+pub site_count-few : (sites n : ℕ) (methods before : List Method) (m : Method) → sites ≡ site_count methods → site_count methods ≡ site_count before → n ≡ length m.sites → site_count before + length m.sites ≤ 1000000 → sites + n ≤ 1000000
+site_count-few sites n methods before m counted same size few = rw (counted, same, size) few
+
 -- ---- a method
 
 -- an earlier one is alike
@@ -54,13 +66,17 @@ pub method_at-doubled : (pool : Entries) (k at : ℕ) (methods : List Method) (m
 unfolding method_at
 method_at-doubled pool k at methods m is doubled = rw (is, doubled) refl
 
-pub method_at-broken : (pool : Entries) (k at : ℕ) (methods : List Method) (m : Method) (f : ClassFault) → declared_at pool at ≡ Ok m → list_any (is_signature m.name m.desc) methods ≡ false → attributes_at pool (at + 6) ≡ Err f → method_at pool k (begun at methods) ≡ Err f
+-- Its attributes are broken, or there was no memory for them.
+pub method_at-broken : (pool : Entries) (k at : ℕ) (methods : List Method) (m : Method) (e : ReadError ClassFault) → declared_at pool at ≡ Ok m → list_any (is_signature m.name m.desc) methods ≡ false
+    → Fails e (method_attributes_at pool (site_count methods) (at + 6)) → Fails e (method_at pool k (begun at methods))
 unfolding method_at
-method_at-broken pool k at methods m f is fresh broken = rw (is, fresh, broken) refl
+method_at-broken pool k at methods m errors.NoMemory is fresh broken = tt
+method_at-broken pool k at methods m (errors.Fault f) is fresh broken = rw (is, fresh, broken) refl
 
-pub method_at-read : (pool : Entries) (k at : ℕ) (methods : List Method) (m : Method) (after : ℕ) → declared_at pool at ≡ Ok m → list_any (is_signature m.name m.desc) methods ≡ false → attributes_at pool (at + 6) ≡ Ok after → method_at pool k (begun at methods) ≡ Ok (m, begun after (methods ++ m ∷ []))
+pub method_at-read : (pool : Entries) (k at : ℕ) (methods : List Method) (m : Method) (read : CodeBegun) → declared_at pool at ≡ Ok m → list_any (is_signature m.name m.desc) methods ≡ false
+    → method_attributes_at pool (site_count methods) (at + 6) ≡ Ok read → method_at pool k (begun at methods) ≡ Ok (with_sites m (or_none read.sites), begun read.at (methods ++ with_sites m (or_none read.sites) ∷ []))
 unfolding method_at
-method_at-read pool k at methods m after is fresh read = rw (is, fresh, read) refl
+method_at-read pool k at methods m read is fresh attributes = rw (is, fresh, attributes) refl
 
 -- ---- the rows of methods, one after the other
 

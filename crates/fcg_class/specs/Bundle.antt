@@ -1,5 +1,5 @@
 -- Bundles: what they are, and how they are read.
-use Rattle.std.specs.Prelude.{◌≡◌, ◌≢◌, ℕ, ◌+◌, ◌<◌, ◌^◌, List, [], ◌∷◌, ◌++◌, length, map, Bool, true, not, ◌&&◌, nat_eq, Result, Ok, Err, ◌==◌, if◌then◌else◌}
+use Rattle.std.specs.Prelude.{◌≡◌, ◌≢◌, ℕ, ◌+◌, ◌-◌, ◌<◌, ◌≤◌, ◌^◌, List, [], ◌∷◌, ◌++◌, length, map, Bool, true, not, ◌&&◌, nat_eq, nat_le, Result, Ok, Err, ◌==◌, if◌then◌else◌}
 use Rattle.std.specs.List.{concat, flat_map, list_any, starts_with, AllPairs, AllZip}
 use Rattle.std.specs.Cmp.Lexicographic.{pointwise}
 use Rattle.fcg_grammar.specs.Spell.{u2, u4}
@@ -9,6 +9,7 @@ use Rattle.fcg_grammar.specs.Rows.{rows}
 use Rattle.fcg_views.specs.declared.view.View.{View}
 use Rattle.fcg_views.specs.declared.fault.ClassFault.{ClassFault}
 use Rattle.fcg_views.specs.Reads.{Reads}
+use Rattle.fcg_views.specs.Valid.{site_count, sites_of_all}
 use Rattle.fcg_views.specs.Breaks.Class.{class_of}
 use Rattle.fcg_class.specs.declared.bundle.BundleFault.{BundleFault}
 use Rattle.fcg_class.specs.declared.bundle.BundleFault.TheVariants.{Jar, NotBuilt}
@@ -41,6 +42,7 @@ pub record Content (bytes : List ℕ) (views : List View) : Type 0 where
   pub few : length entries < 2 ^ 32
   pub each : AllZip IsEntryOf entries views
   pub distinct : AllPairs (λ p q. p ≢ q) (map (λ e. e.path) entries)
+  pub few_sites : sites_of_all views ≤ 4000000
 
 -- ==== how they are read: each fault but that of a jar is told alike
 
@@ -65,17 +67,19 @@ body_at bytes at = do
 abbrev pub is_same : List ℕ → List ℕ → Bool
 is_same p q = pointwise nat_eq p q
 
--- where the next entry stands, and the paths of those before it
+-- where the next entry stands, the paths of those before it, and how many sites the views may still have
 pub record Begun : Type 0 where
   pub at : ℕ
   pub paths : List (List ℕ)
+  pub room : ℕ
 
 unfoldable pub entry_at : List ℕ → ℕ → Begun → Result (View × Begun) BundleFault
 entry_at bytes k begun = do
   path ← path_at bytes begun.at
   fresh ← unless_broken (not (list_any (λ p. is_same p path.0) begun.paths)) NotBuilt
   body ← body_at bytes path.1
-  Ok (body.0, record { at = body.1; paths = begun.paths ++ path.0 ∷ [] })
+  few ← unless_broken (nat_le (site_count body.0.methods) begun.room) NotBuilt
+  Ok (body.0, record { at = body.1; paths = begun.paths ++ path.0 ∷ []; room = begun.room - site_count body.0.methods })
 
 -- FCGB, version 1, the entries, and nothing after them
 unfoldable pub entries_of : List ℕ → Result (List View) BundleFault
@@ -85,7 +89,7 @@ entries_of bytes = do
   version ← u2_at NotBuilt bytes 4
   known ← unless_broken (version == 1) NotBuilt
   count ← u4_at NotBuilt bytes 6
-  read ← rows (entry_at bytes) count 0 (record { at = 10; paths = [] })
+  read ← rows (entry_at bytes) count 0 (record { at = 10; paths = []; room = 4000000 })
   ended ← unless_broken (length bytes == read.1.at) NotBuilt
   Ok read.0
 

@@ -12,6 +12,7 @@ use Rattle.fcg_grammar.specs.declared.error.ReadError.TheVariants as errors
 use Rattle.fcg_grammar.specs.Reading.{Fails}
 use Rattle.fcg_views.specs.declared.view.View.{View}
 use Rattle.fcg_views.specs.declared.fault.ClassFault.{ClassFault}
+use Rattle.fcg_class.specs.declared.bundle.Ahead.{Ahead}
 use Rattle.fcg_class.specs.declared.bundle.BundleFault.{BundleFault}
 use Rattle.fcg_class.specs.declared.bundle.BundleFault.TheVariants.{NotBuilt}
 use Rattle.fcg_class.specs.Bundle.{Begun, is_same}
@@ -23,11 +24,15 @@ path_cmp x y = slice_cmp nat_cmp x.now y.now
 abbrev pub ArePaths : BTreeSet (Bor (List ℕ)) → List (List ℕ) → Type 0
 ArePaths set paths = (p : Bor (List ℕ)) → tree.contains path_cmp set p ≡ list_any (λ q. is_same q p.now) paths
 
-abbrev pub begun : ℕ → List (List ℕ) → Begun
-begun at paths = record { at = at; paths = paths }
+-- before an entry: its place, the number of sites that the views may still have, and the paths of those before
+abbrev pub begun : Ahead → List (List ℕ) → Begun
+begun ahead paths = record { at = ahead.at; paths = paths; room = ahead.room }
 
--- a view more, and the place after its entry, whose path is in the set; or the fault
-abbrev pub GivesEntry : Result (View × ℕ) (ReadError BundleFault) → BTreeSet (Bor (List ℕ)) → List (List ℕ) → Result (View × Begun) BundleFault → Type 0
+abbrev pub start : ℕ → Begun
+start at = record { at = at; paths = []; room = 4000000 }
+
+-- a view more, and what is ahead after its entry, whose path is in the set; or the fault
+abbrev pub GivesEntry : Result (View × Ahead) (ReadError BundleFault) → BTreeSet (Bor (List ℕ)) → List (List ℕ) → Result (View × Begun) BundleFault → Type 0
 GivesEntry (Ok x) set paths read = (path : List ℕ) × ArePaths set (paths ++ path ∷ []) × (read ≡ Ok (x.0, begun x.1 (paths ++ path ∷ [])))
 GivesEntry (Err e) set paths read = Fails e read
 
@@ -38,5 +43,5 @@ told (errors.Fault f) = errors.Fault NotBuilt
 
 -- The views of some entries, and the place after them, whatever their paths; or the fault.
 abbrev pub GivesEntries : Result (List View × ℕ) (ReadError BundleFault) → Result (List View × Begun) BundleFault → Type 0
-GivesEntries (Ok x) read = (paths : List (List ℕ)) × (read ≡ Ok (x.0, begun x.1 paths))
+GivesEntries (Ok x) read = (paths : List (List ℕ)) × (room : ℕ) × (read ≡ Ok (x.0, record { at = x.1; paths = paths; room = room }))
 GivesEntries (Err e) read = Fails e read

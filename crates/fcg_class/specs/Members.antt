@@ -1,20 +1,24 @@
 -- What the reader of methods answers.
-use Rattle.std.specs.Prelude.{◌≡◌, ℕ, List, [], ◌∷◌, ◌++◌, Result, Ok, Err}
+use Rattle.std.specs.Prelude.{◌≡◌, ℕ, List, [], ◌∷◌, ◌++◌, Option, Result, Ok, Err}
 use Rattle.fcg_grammar.specs.declared.error.ReadError.{ReadError}
 use Rattle.fcg_grammar.specs.Reading.{Fails}
 use Rattle.fcg_views.specs.declared.view.Method.{Method}
+use Rattle.fcg_views.specs.declared.view.Site.{Site}
 use Rattle.fcg_views.specs.declared.fault.ClassFault.{ClassFault}
 use Rattle.fcg_views.specs.Breaks.Pool.{Entries, text_of}
-use Rattle.fcg_views.specs.Breaks.Members.{Begun}
+use Rattle.fcg_views.specs.Breaks.Members.{CodeBegun, Begun}
 use Rattle.fcg_class.specs.declared.members.Declared.{Declared}
 
--- the method that a row declares
+-- the method that a row declares, without its sites
 abbrev pub method_of : Declared → Method
 method_of d = record { name = d.name.bytes.now; desc = d.desc.bytes.now; flags = d.flags; sites = [] }
 
 -- its texts are those of their indexes
 abbrev pub AreTextsOf : Entries → Declared → Type 0
 AreTextsOf pool d = (text_of pool d.name.index ≡ Ok d.name.bytes.now) × (text_of pool d.desc.index ≡ Ok d.desc.bytes.now)
+
+abbrev pub code_begun : ℕ → Option (List Site) → CodeBegun
+code_begun at sites = record { at = at; sites = sites }
 
 abbrev pub begun : ℕ → List Method → Begun
 begun at methods = record { at = at; earlier = methods }

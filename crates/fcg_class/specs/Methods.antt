@@ -1,5 +1,5 @@
--- The methods of a class file as they are read, beside what is known of the texts of its pool.
-use Rattle.std.specs.Prelude.{◌≡◌, ℕ, List, Bool, true, false, ◌&&◌, nat_eq, slice_index_or, Ok}
+-- The methods of a class file as they are read.
+use Rattle.std.specs.Prelude.{◌≡◌, ◌≤◌, ℕ, List, Bool, ◌&&◌, nat_eq, slice_index_or, Ok}
 use Rattle.std.specs.List.{list_any}
 use Rattle.std.specs.Ordering.{nat_cmp, ordering_then}
 use Rattle.std.specs.declared.cmp.Ordering.{Ordering}
@@ -7,7 +7,7 @@ use Rattle.std.specs.Cmp.Lexicographic.{pointwise}
 use Rattle.std.specs.BTreeSet as tree
 use Rattle.std.specs.BTreeSet.{BTreeSet}
 use Rattle.fcg_views.specs.declared.view.Method.{Method}
-use Rattle.fcg_views.specs.DescSteps.{is_descriptor}
+use Rattle.fcg_views.specs.Valid.{site_count}
 use Rattle.fcg_views.specs.Breaks.Pool.{Entries, text_of}
 use Rattle.fcg_class.specs.Firsts.{AreFirsts}
 
@@ -19,14 +19,6 @@ is_signature name desc m = pointwise nat_eq m.name name && pointwise nat_eq m.de
 pub record Table : Type 0 where
   pub pool : Entries
   pub methods : List Method
-
--- what was found to be a descriptor is one
-abbrev pub AreTyped : Entries → List Bool → Type 0
-AreTyped pool typed = (i : ℕ) (text : List ℕ) → slice_index_or typed i false ≡ true → text_of pool i ≡ Ok text → is_descriptor text ≡ true
-
--- nothing was found
-abbrev pub AllUntyped : List Bool → Type 0
-AllUntyped typed = (i : ℕ) → slice_index_or typed i false ≡ false
 
 -- the first indexes of a name and of a descriptor, and the order of these
 abbrev pub Signature : Type 0
@@ -41,7 +33,8 @@ AreSignatures pool firsts signatures methods =
     (i j : ℕ) (name desc : List ℕ) → text_of pool i ≡ Ok name → text_of pool j ≡ Ok desc
     → tree.contains signature_cmp signatures (slice_index_or firsts i 0, slice_index_or firsts j 0) ≡ list_any (is_signature name desc) methods
 
-pub record IsTable (pool : Entries) (methods : List Method) (firsts : List ℕ) (typed : List Bool) (signatures : BTreeSet Signature) : Type 0 where
+pub record IsTable (pool : Entries) (methods : List Method) (firsts : List ℕ) (signatures : BTreeSet Signature) (sites : ℕ) : Type 0 where
   pub firsts_are : AreFirsts pool firsts
-  pub typed_are : AreTyped pool typed
   pub signatures_are : AreSignatures pool firsts signatures methods
+  pub counted : sites ≡ site_count methods
+  pub few : sites ≤ 1000000

@@ -4,15 +4,18 @@ ghost use Rattle.std.specs.List.{All};
 ghost use Rattle.fcg_grammar.specs.Reading.{seen, Gives};
 ghost use Rattle.fcg_grammar.specs.Rows.{rows};
 ghost use Rattle.fcg_views.specs.Valid.{IsValid};
-ghost use Rattle.fcg_class.specs.Entries.{told, begun, ArePaths, GivesEntry, GivesEntries};
+ghost use Rattle.fcg_class.specs.Entries.{told, begun, start, ArePaths, GivesEntry, GivesEntries};
 ghost use Rattle.fcg_class.specs.Bundle.{Content, path_at, body_at, entry_at, entries_of, bundle_of, is_jar};
 
 use crate::class::read_class;
 use crate::path::{is_class_path, is_path};
 use fcg_grammar::{ReadError, read_part, read_u2, read_u4};
-use fcg_views::{ClassFault, View, Views};
+use fcg_views::{ClassFault, View, Views, sites_left};
 use std::alloc::Global;
 use std::collections::BTreeSet;
+
+// The most sites of the views of a bundle.
+const MOST_SITES: usize = 4_000_000;
 
 /// Why bytes are refused as a bundle.
 #[derive(Clone, Copy, Debug, PartialEq, Eq)]
@@ -78,23 +81,34 @@ fn read_body(
     }
 }
 
-// The view of the entry that stands at a place, and the place after it. Its path is added to those before it.
+// What is ahead of the entries that were read: the place of the next, and how many sites the views may still have.
+#[derive(Clone, Copy)]
+struct Ahead {
+    at: usize,
+    room: usize,
+}
+
+// The view of the next entry, and what is ahead after it. Its path is added to those before it.
 #[tactic(auto, unfolding(crate::specs::Bundle::entry_at))]
 fn read_entry<'a>(
     alloc: Global,
     bytes: &'a [u8],
     paths: &mut BTreeSet<&'a [u8]>,
-    at: usize,
-) -> Result<(View, usize), ReadError<BundleFault>>
-    requires { at ≤ length bytes.now }
-    ensures value { (k : ℕ) (before : List (List ℕ)) → ArePaths paths.old before → GivesEntry result paths.new before (entry_at bytes.now k (begun at before)) }
-    ensures inside { IfOk result (λ x. x.1 ≤ length bytes.now) }
+    ahead: Ahead,
+) -> Result<(View, Ahead), ReadError<BundleFault>>
+    requires { ahead.at ≤ length bytes.now }
+    ensures value { (k : ℕ) (before : List (List ℕ)) → ArePaths paths.old before → GivesEntry result paths.new before (entry_at bytes.now k (begun ahead before)) }
+    ensures inside { IfOk result (λ x. x.1.at ≤ length bytes.now) }
 {
-    let (path, after) = read_path(bytes, at)?;
+    let (path, after) = read_path(bytes, ahead.at)?;
     if !paths.insert(path)? {
         return Err(ReadError::Fault(BundleFault::NotBuilt));
     }
-    read_body(alloc, bytes, after)
+    let (view, at) = read_body(alloc, bytes, after)?;
+    match sites_left(ahead.room, view.methods.as_slice()) {
+        Some(room) => Ok((view, Ahead { at, room })),
+        None => Err(ReadError::Fault(BundleFault::NotBuilt)),
+    }
 }
 
 // The views of so many entries, and the place after them.
@@ -105,18 +119,21 @@ fn read_entries(
     at: usize,
 ) -> Result<(Views, usize), ReadError<BundleFault>>
     requires { at ≤ length bytes.now }
-    ensures value { GivesEntries result (rows (entry_at bytes.now) count 0 (begun at [])) }
+    ensures value { GivesEntries result (rows (entry_at bytes.now) count 0 (start at)) }
     ensures inside { IfOk result (λ x. x.1 ≤ length bytes.now) }
 {
     let mut views = Vec::new(alloc);
     let mut paths = BTreeSet::new(alloc);
-    let mut place = at;
+    let mut ahead = Ahead {
+        at,
+        room: MOST_SITES,
+    };
     for _ in 0..count {
-        let (view, after) = read_entry(alloc, bytes, &mut paths, place)?;
+        let (view, after) = read_entry(alloc, bytes, &mut paths, ahead)?;
         views.push(view)?;
-        place = after;
+        ahead = after;
     }
-    Ok((Views::from(views), place))
+    Ok((Views::from(views), ahead.at))
 }
 
 // The views of a bundle that is no jar.

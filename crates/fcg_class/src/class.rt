@@ -7,7 +7,8 @@ ghost use Rattle.fcg_views.specs.Breaks.Fault.{in_pool};
 ghost use Rattle.fcg_views.specs.Breaks.Pool.{pool_at};
 ghost use Rattle.fcg_views.specs.Breaks.Class.{header_kept, type_at, super_at, interface_at, interfaces_at, flags_at, fields_at, members_at, body_at, class_of};
 
-use crate::members::{pass_attributes, read_methods};
+use crate::attributes::pass_attributes;
+use crate::members::read_methods;
 use crate::names::ClassNames;
 use crate::number::{read_u2, read_u4};
 use crate::text::find_type;
@@ -182,7 +183,7 @@ fn read_members(
     let pool = names.pool();
     let methods_at = pass_fields(pool, at)?;
     let (methods, after) = read_methods(alloc, names, methods_at)?;
-    let end = pass_attributes(pool, after)?;
+    let end = pass_attributes(pool, pool.bytes(), after)?;
     if pool.bytes().len() != end {
         return Err(ReadError::Fault(fault_at(end, 0, ClassRule::Trailing)));
     }

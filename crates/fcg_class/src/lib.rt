@@ -3,8 +3,10 @@
 //! values that every layer speaks of, on the reader of constant pools, and on the laws of class files.
 #![tactic(auto)]
 
+mod attributes;
 mod bundle;
 mod class;
+mod code;
 mod firsts;
 mod laws;
 mod members;
@@ -12,6 +14,7 @@ mod methods;
 mod names;
 mod number;
 mod path;
+mod site;
 #[cfg(test)]
 mod tests;
 mod text;

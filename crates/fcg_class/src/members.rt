@@ -1,69 +1,20 @@
-//! Attributes and methods.
-ghost use Rattle.std.specs.Prelude.{◌≡◌, ◌≤◌, ◌+◌, ℕ, [], length, Ok, OnOk, IfOk};
+//! Methods (JVMS 4.6).
+ghost use Rattle.std.specs.Prelude.{◌≡◌, ◌≤◌, ◌+◌, ℕ, [], length, None, OnOk, IfOk};
 ghost use Rattle.fcg_grammar.specs.Reading.{seen, Gives};
 ghost use Rattle.fcg_grammar.specs.Rows.{rows, ended};
-ghost use Rattle.fcg_views.specs.Breaks.Words.{is_passed};
-ghost use Rattle.fcg_views.specs.Breaks.Pool.{text_of};
-ghost use Rattle.fcg_views.specs.Breaks.Members.{attribute_at, attributes_at, declared_at, method_at, methods_at};
-ghost use Rattle.fcg_class.specs.Members.{method_of, AreTextsOf, GivesNext, begun};
+ghost use Rattle.fcg_views.specs.Breaks.Members.{method_attribute_at, method_attributes_at, or_none, with_sites, declared_at, method_at, methods_at};
+ghost use Rattle.fcg_class.specs.Members.{method_of, AreTextsOf, GivesNext, begun, code_begun};
 
+use crate::attributes::{find_named, is_code, pass_content};
+use crate::code::read_code;
 use crate::methods::MethodTable;
 use crate::names::ClassNames;
-use crate::number::{read_part, read_u2, read_u4};
+use crate::number::read_u2;
 use crate::text::{Text, find_text};
 use fcg_grammar::ReadError;
 use fcg_pool::Pool;
 use fcg_views::{ClassFault, ClassRule, Method, Methods, NoMemory, Sites, fault_at};
 use std::alloc::Global;
-
-// Whether an attribute of this name is passed over.
-fn is_passed(name: &[u8]) -> bool
-    ensures { result ≡ is_passed name.now }
-{
-    name != b"Code".as_slice() && name != b"BootstrapMethods".as_slice()
-}
-
-// The place after the attribute that stands at a place.
-#[tactic(auto, unfolding(fcg_views::specs::Breaks::Members::attribute_at))]
-fn pass_attribute(pool: &Pool<'_>, at: usize) -> Result<usize, ClassFault>
-    requires { at ≤ length pool.now.bytes }
-    ensures value { (k : ℕ) → seen (λ after. (tt, after)) result ≡ attribute_at pool.now k at }
-    ensures inside { IfOk result (λ after. after ≤ length pool.now.bytes) }
-{
-    let bytes = pool.bytes();
-    prove!(at <= bytes.len());
-    let name = find_text(pool, at)?;
-    if !is_passed(name.bytes) {
-        return Err(fault_at(at, 0, ClassRule::NotBuilt));
-    }
-    let len = read_u4(bytes, at + 2, 0)? as usize;
-    read_part(bytes, at + 6, len, 0)?;
-    Ok(at + 6 + len)
-}
-
-// The place after so many attributes.
-fn pass_rows(pool: &Pool<'_>, count: u16, at: usize) -> Result<usize, ClassFault>
-    requires { at ≤ length pool.now.bytes }
-    ensures value { result ≡ ended (rows (attribute_at pool.now) count 0 at) }
-    ensures inside { IfOk result (λ after. after ≤ length pool.now.bytes) }
-{
-    let mut place = at;
-    for _ in 0..count {
-        place = pass_attribute(pool, place)?;
-    }
-    Ok(place)
-}
-
-/// The place after the attributes whose count stands at a place. They are passed over by their lengths.
-#[tactic(auto, unfolding(fcg_views::specs::Breaks::Members::attributes_at))]
-pub fn pass_attributes(pool: &Pool<'_>, at: usize) -> Result<usize, ClassFault>
-    requires { at ≤ length pool.now.bytes }
-    ensures value { result ≡ attributes_at pool.now at }
-    ensures inside { IfOk result (λ after. after ≤ length pool.now.bytes) }
-{
-    let count = read_u2(pool.bytes(), at, 0)?;
-    pass_rows(pool, count, at + 2)
-}
 
 // What the row of a method declares.
 #[derive(Drop)]
@@ -75,34 +26,120 @@ struct Declared<'a> {
 
 // The flags, the name and the descriptor of the method that stands at a place.
 #[tactic(auto, unfolding(fcg_views::specs::Breaks::Members::declared_at))]
-fn find_declared<'a>(table: &mut MethodTable<'a>, at: usize) -> Result<Declared<'a>, ClassFault>
-    requires { at ≤ length table.old.pool.bytes }
-    ensures value { seen method_of result ≡ declared_at table.old.pool at }
-    ensures named { IfOk result (AreTextsOf table.old.pool) }
-    ensures inside { OnOk result (at + 6 ≤ length table.old.pool.bytes) }
-    ensures same { table.new ≡ table.old }
+fn find_declared<'a>(names: &mut ClassNames<'a>, at: usize) -> Result<Declared<'a>, ClassFault>
+    requires { at ≤ length names.old.bytes }
+    ensures value { seen method_of result ≡ declared_at names.old at }
+    ensures named { IfOk result (AreTextsOf names.old) }
+    ensures inside { OnOk result (at + 6 ≤ length names.old.bytes) }
+    ensures same { names.new ≡ names.old }
 {
-    let pool = table.pool();
+    let pool = names.pool();
     let flags = read_u2(pool.bytes(), at, 0)?;
-    let name = find_text(pool, at + 2)?;
+    let name = find_text(pool, pool.bytes(), at + 2)?;
     if name.bytes.is_empty() {
         return Err(fault_at(at + 2, 0, ClassRule::EmptyName));
     }
-    let desc = find_text(pool, at + 4)?;
-    if !table.is_descriptor(&desc) {
+    let desc = find_text(pool, pool.bytes(), at + 4)?;
+    if !names.is_descriptor(&desc) {
         return Err(fault_at(at + 4, 0, ClassRule::Descriptor));
     }
     Ok(Declared { flags, name, desc })
 }
 
-// The method that a row declares, with names of its own.
+// The place after the attribute that stands at a place, and the sites of the code so far. A method's second Code is the
+// fault `DoubleCode`.
+#[tactic(auto, unfolding(fcg_views::specs::Breaks::Members::method_attribute_at, fcg_views::specs::Breaks::Members::code_attribute_at))]
+fn read_attribute(
+    alloc: Global,
+    names: &mut ClassNames<'_>,
+    count: usize,
+    at: usize,
+    sites: Option<Sites>,
+) -> Result<(usize, Option<Sites>), ReadError<ClassFault>>
+    requires place { at ≤ length names.old.bytes }
+    requires few { count ≤ 1000000 }
+    requires counted { count + length (or_none sites) ≤ 1000000 }
+    ensures value { (k : ℕ) → Gives (λ x. (tt, code_begun x.0 x.1)) result (method_attribute_at names.old count k (code_begun at sites)) }
+    ensures few { IfOk result (λ x. count + length (or_none x.1) ≤ 1000000) }
+    ensures inside { IfOk result (λ x. x.0 ≤ length names.old.bytes) }
+    ensures same { names.new ≡ names.old }
+{
+    let bytes = names.pool().bytes();
+    let name = find_named(names.pool(), bytes, at)?;
+    if !is_code(name) {
+        return Ok((pass_content(bytes, at)?, sites));
+    }
+    if sites.is_some() {
+        return Err(ReadError::Fault(fault_at(at, 0, ClassRule::DoubleCode)));
+    }
+    let after = pass_content(bytes, at)?;
+    let sites = read_code(alloc, names, &bytes[..after], at + 6, count)?;
+    Ok((after, Some(sites)))
+}
+
+// The place after so many attributes of a method, and the sites of its code.
+fn read_attribute_rows(
+    alloc: Global,
+    names: &mut ClassNames<'_>,
+    count: usize,
+    attributes: u16,
+    at: usize,
+) -> Result<(usize, Option<Sites>), ReadError<ClassFault>>
+    requires place { at ≤ length names.old.bytes }
+    requires few { count ≤ 1000000 }
+    ensures value { Gives (λ x. code_begun x.0 x.1) result (ended (rows (method_attribute_at names.old count) attributes 0 (code_begun at None))) }
+    ensures few { IfOk result (λ x. count + length (or_none x.1) ≤ 1000000) }
+    ensures inside { IfOk result (λ x. x.0 ≤ length names.old.bytes) }
+    ensures same { names.new ≡ names.old }
+{
+    let mut place = at;
+    let mut sites = None;
+    for _ in 0..attributes {
+        let (after, found) = read_attribute(alloc, names, count, place, sites)?;
+        place = after;
+        sites = found;
+    }
+    Ok((place, sites))
+}
+
+// The place after the attributes of a method whose count stands at a place, and the sites of its code.
+#[tactic(auto, unfolding(fcg_views::specs::Breaks::Members::method_attributes_at))]
+fn read_attributes(
+    alloc: Global,
+    names: &mut ClassNames<'_>,
+    count: usize,
+    at: usize,
+) -> Result<(usize, Option<Sites>), ReadError<ClassFault>>
+    requires place { at ≤ length names.old.bytes }
+    requires few { count ≤ 1000000 }
+    ensures value { Gives (λ x. code_begun x.0 x.1) result (method_attributes_at names.old count at) }
+    ensures few { IfOk result (λ x. count + length (or_none x.1) ≤ 1000000) }
+    ensures inside { IfOk result (λ x. x.0 ≤ length names.old.bytes) }
+    ensures same { names.new ≡ names.old }
+{
+    let attributes = read_u2(names.pool().bytes(), at, 0)?;
+    read_attribute_rows(alloc, names, count, attributes, at + 2)
+}
+
+// The sites of a code, or none.
+fn sites_or_none(alloc: Global, sites: Option<Sites>) -> Sites
+    ensures { result ≡ or_none sites }
+{
+    match sites {
+        Some(sites) => sites,
+        None => Sites::from(Vec::new(alloc)),
+    }
+}
+
+// The method that a row declares, with names of its own and these sites.
 fn make_method(
     alloc: Global,
     names: &mut ClassNames<'_>,
     declared: &Declared<'_>,
+    sites: Sites,
 ) -> Result<Method, NoMemory>
     requires { AreTextsOf names.old declared.now }
-    ensures ok { IfOk result (λ method. method ≡ method_of declared.now) }
+    ensures ok { IfOk result (λ method. method ≡ with_sites (method_of declared.now) sites) }
     ensures same { names.new ≡ names.old }
 {
     let name = names.name(alloc, &declared.name)?;
@@ -111,7 +148,7 @@ fn make_method(
         name,
         desc,
         flags: declared.flags,
-        sites: Sites::from(Vec::new(alloc)),
+        sites,
     })
 }
 
@@ -129,15 +166,15 @@ fn read_method<'a>(
     ensures inside { IfOk result (λ after. after ≤ length table.old.pool.bytes) }
     ensures same { (names.new ≡ names.old) × (table.new.pool ≡ table.old.pool) }
 {
-    let pool = table.pool();
-    let bytes = pool.bytes();
+    let bytes = table.pool().bytes();
     prove!(at <= bytes.len());
-    let declared = find_declared(table, at)?;
+    let declared = find_declared(names, at)?;
     if table.has(&declared.name, &declared.desc) {
         return Err(ReadError::Fault(fault_at(at, 0, ClassRule::DoubleMethod)));
     }
-    let after = pass_attributes(pool, at + 6)?;
-    let method = make_method(alloc, names, &declared)?;
+    let (after, sites) = read_attributes(alloc, names, table.site_count(), at + 6)?;
+    let sites = sites_or_none(alloc, sites);
+    let method = make_method(alloc, names, &declared, sites)?;
     table.push(method, &declared.name, &declared.desc)?;
     Ok(after)
 }
@@ -162,8 +199,9 @@ fn read_method_rows(
     Ok((Methods::from(table.into_methods()), place))
 }
 
-/// The methods whose count stands at a place, and the place after them. For each method it makes a logarithm of their
-/// number in comparisons of indexes; texts are compared, and descriptors read, once for each Utf8 of the pool.
+/// The methods whose count stands at a place, and the place after them. It makes one pass over the code of each, and
+/// for each method a logarithm of their number in comparisons of indexes; texts are compared, and descriptors read, once
+/// for each Utf8 of the pool. It takes memory for the methods and their sites.
 #[tactic(auto, unfolding(fcg_views::specs::Breaks::Members::methods_at))]
 pub fn read_methods(
     alloc: Global,

@@ -1,30 +1,30 @@
 //! The methods of a class file, no two of which have one name and descriptor.
-ghost use Rattle.std.specs.Prelude.{◌≡◌, ◌++◌, ◌∷◌, [], Ok, OnOk, IfOk};
+ghost use Rattle.std.specs.Prelude.{◌≡◌, ◌≤◌, ◌+◌, ◌++◌, ◌∷◌, [], length, Ok, OnOk, IfOk};
 ghost use Rattle.std.specs.List.{list_any};
-ghost use Rattle.fcg_views.specs.DescSteps.{is_descriptor};
 ghost use Rattle.fcg_views.specs.Breaks.Pool.{text_of};
-ghost use Rattle.fcg_class.specs.Methods.{AllUntyped, is_signature};
+ghost use Rattle.fcg_views.specs.Valid.{site_count};
+ghost use Rattle.fcg_class.specs.Methods.{is_signature};
 
 use crate::firsts::{find_firsts, first_of};
 use crate::text::Text;
 use fcg_pool::Pool;
-use fcg_views::{Method, read_descriptor};
+use fcg_views::Method;
 use std::alloc::{AllocError, Global};
 use std::collections::BTreeSet;
 use std::marker::Model;
 
 /// Methods in the order in which they were read. Their names and descriptors are kept as indexes of the constant pool,
-/// so that no text is compared, and no descriptor read, once for each method.
+/// so that texts are compared once for each Utf8 and not for each method.
 #[derive(Drop)]
 pub struct MethodTable<'a> {
     pool: &'a Pool<'a>,
     methods: Vec<Method>,
     // by the index of a Utf8, the first index of its text
     firsts: Vec<u16>,
-    // by the index of a Utf8, whether it was found to be a method descriptor
-    typed: Vec<bool>,
     // of each method the first indexes of its name and its descriptor
     signatures: BTreeSet<(u16, u16)>,
+    // how many sites the methods have
+    sites: usize,
 }
 
 impl<'a> Model for MethodTable<'a> {
@@ -34,7 +34,7 @@ impl<'a> Model for MethodTable<'a> {
 
     ghost view = { λ t. record { pool = t.pool.now; methods = t.methods.items } };
 
-    ghost invariant = { λ t. IsTable t.pool.now t.methods.items t.firsts.items t.typed.items t.signatures };
+    ghost invariant = { λ t. IsTable t.pool.now t.methods.items t.firsts.items t.signatures t.sites };
 }
 
 impl<'a> MethodTable<'a> {
@@ -46,8 +46,8 @@ impl<'a> MethodTable<'a> {
             pool,
             methods: Vec::new(alloc),
             firsts: find_firsts(alloc, pool)?,
-            typed: untyped(alloc, pool.len() + 1)?,
             signatures: BTreeSet::new(alloc),
+            sites: 0,
         })
     }
 
@@ -58,21 +58,12 @@ impl<'a> MethodTable<'a> {
         self.pool
     }
 
-    /// Whether a text is a method descriptor. One that is is read once, however often it is asked for.
-    pub fn is_descriptor(&mut self, text: &Text<'_>) -> bool
-        requires { text_of self.old.pool text.now.index ≡ Ok text.now.bytes.now }
-        ensures value { result ≡ is_descriptor text.now.bytes.now }
-        ensures same { self.new ≡ self.old }
+    /// How many sites the methods have.
+    pub fn site_count(&self) -> usize
+        ensures value { result ≡ site_count self.now.methods }
+        ensures few { result ≤ 1000000 }
     {
-        let index = usize::from(text.index);
-        if let Some(true) = self.typed.get(index) {
-            return true;
-        }
-        let found = read_descriptor(text.bytes).is_ok();
-        if found && let Some(typed) = self.typed.get_mut(index) {
-            *typed = true;
-        }
-        found
+        self.sites
     }
 
     /// Whether a method has this name and descriptor. Compares a logarithm of the number of methods of indexes.
@@ -88,7 +79,8 @@ impl<'a> MethodTable<'a> {
         self.signatures.contains(&signature)
     }
 
-    /// Adds a method of this name and descriptor. Without memory the table is as it was.
+    /// Adds a method of this name and descriptor. The methods have at most 1,000,000 sites with its own. Without memory
+    /// the table is as it was.
     pub fn push(
         &mut self,
         method: Method,
@@ -97,6 +89,7 @@ impl<'a> MethodTable<'a> {
     ) -> Result<(), AllocError>
         requires name { (text_of self.old.pool name.now.index ≡ Ok name.now.bytes.now) × (method.name ≡ name.now.bytes.now) }
         requires desc { (text_of self.old.pool desc.now.index ≡ Ok desc.now.bytes.now) × (method.desc ≡ desc.now.bytes.now) }
+        requires few { site_count self.old.methods + length method.sites ≤ 1000000 }
         ensures ok { OnOk result (self.new.methods ≡ self.old.methods ++ method ∷ []) }
         ensures same { self.new.pool ≡ self.old.pool }
     {
@@ -106,6 +99,7 @@ impl<'a> MethodTable<'a> {
         );
         self.methods.reserve(1)?;
         self.signatures.insert(signature)?;
+        self.sites += method.sites.as_slice().len();
         self.methods.push(method).unwrap();
         Ok(())
     }
@@ -116,11 +110,4 @@ impl<'a> MethodTable<'a> {
     {
         self.methods
     }
-}
-
-// So many texts that weren't found to be descriptors.
-fn untyped(alloc: Global, count: usize) -> Result<Vec<bool>, AllocError>
-    ensures { IfOk result (λ typed. AllUntyped typed.items) }
-{
-    Ok(vec![in alloc; false; count]?)
 }

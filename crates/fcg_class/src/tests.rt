@@ -1,7 +1,7 @@
 use crate::class::read_class;
 use crate::{BundleFault, read_bundle};
 use fcg_grammar::ReadError;
-use fcg_views::ClassRule;
+use fcg_views::{ClassFault, ClassRule, SiteKind};
 use std::alloc::Global;
 use std::test::Fail;
 
@@ -40,7 +40,7 @@ const METHODS: [u8; 217] = [
 ];
 
 // A byte of it by its place, what it is changed to, and the fault: its rule, its place and the index of the pool.
-const CHANGES: [(usize, u8, ClassRule, u32, u16); 23] = [
+const CHANGES: [(usize, u8, ClassRule, u32, u16); 22] = [
     (3, 0xbf, ClassRule::Magic, 0, 0),
     (7, 44, ClassRule::Version, 6, 0),
     (7, 66, ClassRule::Version, 6, 0),
@@ -57,17 +57,83 @@ const CHANGES: [(usize, u8, ClassRule, u32, u16); 23] = [
     (12, 15, ClassRule::EmptyName, 169, 0),
     (176, 7, ClassRule::WrongKind, 175, 7),
     (178, 1, ClassRule::NotBuilt, 177, 0),
-    // the methods: an empty name, the descriptor `()X`, a descriptor's index, an attribute Code, the same twice
+    // the methods: an empty name, the descriptor `()X`, a descriptor's index, a Code that is cut
+    // before its length, the same twice
     (184, 15, ClassRule::EmptyName, 183, 0),
     (72, 0x58, ClassRule::Descriptor, 185, 0),
     (186, 17, ClassRule::BadIndex, 185, 17),
-    (190, 16, ClassRule::NotBuilt, 189, 0),
+    (190, 16, ClassRule::Cut, 199, 0),
     (204, 8, ClassRule::DoubleMethod, 199, 0),
-    // the class's attributes: Code, a content past the end, and one that ends before it
-    (210, 16, ClassRule::NotBuilt, 209, 0),
+    // the class's attributes: a content past the end, and one that ends before it
     (212, 1, ClassRule::Cut, 215, 0),
     (214, 3, ClassRule::Cut, 215, 0),
     (214, 1, ClassRule::Trailing, 216, 0),
+];
+
+// A class `T` without superclass whose method `m()V` has the code `invokestatic` 7, `nop`, `return`. In its pool 6, 7 and 8
+// are a Fieldref, a Methodref and an InterfaceMethodref of this method; 14, 15 and 16 are Methodrefs with an empty type, an
+// empty name, and the descriptor `m`.
+const CALL: [u8; 130] = [
+    0xca, 0xfe, 0xba, 0xbe, 0x00, 0x00, 0x00, 0x41, 0x00, 0x11, 0x01, 0x00, 0x01, 0x54, 0x07, 0x00,
+    0x01, 0x01, 0x00, 0x01, 0x6d, 0x01, 0x00, 0x03, 0x28, 0x29, 0x56, 0x0c, 0x00, 0x03, 0x00, 0x04,
+    0x09, 0x00, 0x02, 0x00, 0x05, 0x0a, 0x00, 0x02, 0x00, 0x05, 0x0b, 0x00, 0x02, 0x00, 0x05, 0x01,
+    0x00, 0x04, 0x43, 0x6f, 0x64, 0x65, 0x01, 0x00, 0x00, 0x07, 0x00, 0x0a, 0x0c, 0x00, 0x0a, 0x00,
+    0x04, 0x0c, 0x00, 0x03, 0x00, 0x03, 0x0a, 0x00, 0x0b, 0x00, 0x05, 0x0a, 0x00, 0x02, 0x00, 0x0c,
+    0x0a, 0x00, 0x02, 0x00, 0x0d, 0x00, 0x21, 0x00, 0x02, 0x00, 0x00, 0x00, 0x00, 0x00, 0x00, 0x00,
+    0x01, 0x00, 0x09, 0x00, 0x03, 0x00, 0x04, 0x00, 0x01, 0x00, 0x09, 0x00, 0x00, 0x00, 0x11, 0x00,
+    0x00, 0x00, 0x00, 0x00, 0x00, 0x00, 0x05, 0xb8, 0x00, 0x07, 0x00, 0xb1, 0x00, 0x00, 0x00, 0x00,
+    0x00, 0x00,
+];
+
+// An opcode in place of its first, the index after it, and the site: its kind, and whether it names an interface's method.
+const SITES: [(u8, u8, SiteKind, bool); 6] = [
+    (182, 7, SiteKind::Virtual, false),
+    (183, 7, SiteKind::Special, false),
+    (183, 8, SiteKind::Special, true),
+    (184, 7, SiteKind::Static, false),
+    (184, 8, SiteKind::Static, true),
+    (185, 8, SiteKind::Interface, true),
+];
+
+// Two of its bytes by their places, what they are changed to, and the fault.
+const BROKEN_CODE: [(usize, u8, usize, u8, ClassRule, u32, u16); 29] = [
+    // what an opcode may not name: a constant of another kind, index 0, an index past the pool
+    (119, 182, 121, 8, ClassRule::WrongKind, 119, 8),
+    (119, 182, 121, 6, ClassRule::WrongKind, 119, 6),
+    (119, 183, 121, 6, ClassRule::WrongKind, 119, 6),
+    (119, 184, 121, 6, ClassRule::WrongKind, 119, 6),
+    (119, 185, 121, 7, ClassRule::WrongKind, 119, 7),
+    (119, 185, 121, 6, ClassRule::WrongKind, 119, 6),
+    (119, 184, 121, 2, ClassRule::WrongKind, 119, 2),
+    (119, 184, 121, 0, ClassRule::BadIndex, 119, 0),
+    (119, 184, 121, 17, ClassRule::BadIndex, 119, 17),
+    // an empty type, an empty name, a bad descriptor
+    (119, 184, 121, 14, ClassRule::EmptyName, 119, 0),
+    (119, 184, 121, 15, ClassRule::EmptyName, 119, 0),
+    (119, 184, 121, 16, ClassRule::Descriptor, 119, 0),
+    // opcodes that aren't read yet
+    (119, 178, 121, 6, ClassRule::NotBuilt, 119, 0),
+    (119, 179, 121, 6, ClassRule::NotBuilt, 119, 0),
+    (119, 186, 121, 7, ClassRule::NotBuilt, 119, 0),
+    (119, 187, 121, 2, ClassRule::NotBuilt, 119, 0),
+    // instructions that break a rule, the last after the site
+    (119, 202, 121, 7, ClassRule::BadOpcode, 119, 0),
+    (119, 196, 121, 7, ClassRule::BadWide, 119, 0),
+    (119, 170, 121, 7, ClassRule::CodeCut, 119, 0),
+    (119, 184, 123, 17, ClassRule::CodeCut, 123, 0),
+    // the length of the code: 0, and 65,541; 6, so that the count of the attributes passes the content
+    (118, 0, 121, 7, ClassRule::CodeLength, 115, 0),
+    (116, 1, 121, 7, ClassRule::CodeLength, 115, 0),
+    (118, 6, 121, 7, ClassRule::Cut, 127, 0),
+    // a row of the exception table, and an attribute, that pass the content
+    (125, 1, 121, 7, ClassRule::Cut, 126, 0),
+    (127, 1, 121, 7, ClassRule::Cut, 128, 0),
+    // a content that is longer than the code needs, and that passes the file
+    (110, 18, 121, 7, ClassRule::Trailing, 128, 0),
+    (110, 20, 121, 7, ClassRule::Cut, 111, 0),
+    // another attribute than Code, whose name is no Utf8, or is missing
+    (106, 2, 121, 7, ClassRule::WrongKind, 105, 2),
+    (106, 0, 121, 7, ClassRule::BadIndex, 105, 0),
 ];
 
 #[test]
@@ -167,6 +233,71 @@ fn equal_texts(rt: HostRuntime) -> Result<(), Fail> {
             assert_eq!(rt; fault.offset, 199);
         }
         _ => panic!(rt; "a method was read twice"),
+    }
+    Ok(())
+}
+
+#[test]
+fn reads_sites(rt: HostRuntime) -> Result<(), Fail> {
+    for (opcode, index, kind, interface) in SITES {
+        let mut bytes = CALL;
+        bytes[119] = opcode;
+        bytes[121] = index;
+        let view = read_class(rt.alloc(), &bytes)
+            .ok()
+            .ok_or("it is a class file")?;
+        let [method] = view.methods.as_slice() else {
+            panic!(rt; "it has one method");
+        };
+        let [site] = method.sites.as_slice() else {
+            panic!(rt; "{opcode} has one site");
+        };
+        assert_eq!(rt; site.pc, 0);
+        assert_eq!(rt; site.kind, kind, "{opcode}");
+        assert_eq!(rt; site.target.owner_is_interface_ref, interface, "{opcode}");
+        assert_eq!(rt; site.target.owner.as_slice(), b"T".as_slice());
+        assert_eq!(rt; site.target.name.as_slice(), b"m".as_slice());
+        assert_eq!(rt; site.target.desc.as_slice(), b"()V".as_slice());
+    }
+    Ok(())
+}
+
+#[test]
+fn broken_code(rt: HostRuntime) -> Result<(), Fail> {
+    for (one, to, other, too, rule, offset, index) in BROKEN_CODE {
+        let mut bytes = CALL.to_vec(rt.alloc())?;
+        for (at, byte) in [(one, to), (other, too)] {
+            if let Some(old) = bytes.get_mut(at) {
+                *old = byte;
+            }
+        }
+        let want = ClassFault {
+            offset,
+            index,
+            rule,
+        };
+        match read_class(rt.alloc(), &bytes) {
+            Err(ReadError::Fault(fault)) => assert_eq!(rt; fault, want, "{one} as {to}"),
+            _ => panic!(rt; "{one} as {to} was read"),
+        }
+    }
+    Ok(())
+}
+
+// Its one attribute again, after it.
+#[test]
+fn second_code(rt: HostRuntime) -> Result<(), Fail> {
+    let mut bytes = CALL[..128].to_vec(rt.alloc())?;
+    bytes.extend_from_slice(&CALL[105..])?;
+    bytes[104] = 2;
+    let want = ClassFault {
+        offset: 128,
+        index: 0,
+        rule: ClassRule::DoubleCode,
+    };
+    match read_class(rt.alloc(), &bytes) {
+        Err(ReadError::Fault(fault)) => assert_eq!(rt; fault, want),
+        _ => panic!(rt; "a second Code was read"),
     }
     Ok(())
 }

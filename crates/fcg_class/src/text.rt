@@ -2,7 +2,7 @@
 ghost use Rattle.std.specs.Prelude.{◌≡◌, ◌≤◌, ◌+◌, length, Ok, OnOk, IfOk};
 ghost use Rattle.fcg_grammar.specs.Reading.{seen};
 ghost use Rattle.fcg_views.specs.Breaks.Pool.{text_of};
-ghost use Rattle.fcg_views.specs.Breaks.Members.{text_at};
+ghost use Rattle.fcg_views.specs.Breaks.Attributes.{over, text_at};
 ghost use Rattle.fcg_views.specs.Breaks.Class.{type_at};
 
 use crate::number::read_u2;
@@ -16,17 +16,17 @@ pub struct Text<'a> {
     pub bytes: &'a [u8],
 }
 
-/// The text whose index stands at a place.
-#[tactic(auto, unfolding(fcg_views::specs::Breaks::Members::text_at))]
-pub fn find_text<'a>(pool: &Pool<'a>, at: usize) -> Result<Text<'a>, ClassFault>
-    requires { at ≤ length pool.now.bytes }
-    ensures value { seen (λ text. text.bytes.now) result ≡ text_at pool.now at }
+/// The text whose index stands at a place of some bytes of the file.
+#[tactic(auto, using(crate::proofs::OverLemmas::text_over), unfolding(fcg_views::specs::Breaks::Attributes::text_at))]
+pub fn find_text<'a>(pool: &Pool<'a>, bytes: &[u8], at: usize) -> Result<Text<'a>, ClassFault>
+    requires { at ≤ length bytes.now }
+    ensures value { seen (λ text. text.bytes.now) result ≡ text_at (over bytes.now pool.now) at }
     ensures named { IfOk result (λ text. text_of pool.now text.index ≡ Ok text.bytes.now) }
-    ensures inside { OnOk result (at + 2 ≤ length pool.now.bytes) }
+    ensures inside { OnOk result (at + 2 ≤ length bytes.now) }
 {
-    let index = read_u2(pool.bytes(), at, 0)?;
-    let bytes = at_index(at, index, pool.utf8(index))?;
-    Ok(Text { index, bytes })
+    let index = read_u2(bytes, at, 0)?;
+    let text = at_index(at, index, pool.utf8(index))?;
+    Ok(Text { index, bytes: text })
 }
 
 /// The name of the type whose index stands at a place, which has a byte or more.

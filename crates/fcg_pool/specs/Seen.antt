@@ -1,11 +1,12 @@
 -- The structs of the code, as those of the definition.
-use Rattle.std.specs.Prelude.{ℕ, List, false, Result}
+use Rattle.std.specs.Prelude.{◌≡◌, ℕ, List, false, Result, Ok}
 use Rattle.fcg_grammar.specs.Reading.{◌>>=◌}
 use Rattle.fcg_views.specs.declared.fault.PoolRule.{PoolRule}
 use Rattle.fcg_views.specs.Breaks.Pool as pool
 use Rattle.fcg_pool.specs.declared.entries.Next.{Next}
 use Rattle.fcg_pool.specs.declared.pool.Indexes.{Indexes}
 use Rattle.fcg_pool.specs.declared.pool.RefSpan.{RefSpan}
+use Rattle.fcg_pool.specs.declared.pool.RefTexts.{RefTexts}
 
 abbrev pub next_of : Next → pool.Next
 next_of n = record { at = n.at; second = n.second }
@@ -19,6 +20,12 @@ indexes_of x = record { tag = x.tag; first = x.first; second = x.second }
 
 abbrev pub span_of : RefSpan → pool.Reference
 span_of r = record { tag = r.tag; owner = r.owner.now; name = r.name.now; desc = r.desc.now }
+
+-- the texts of a reference are those of the Utf8s at its indexes
+abbrev pub AreRefTexts : pool.Entries → RefTexts → Type 0
+AreRefTexts p x =
+    (pool.text_of p x.owner ≡ Ok x.span.owner.now) × (pool.text_of p x.name ≡ Ok x.span.name.now)
+    × (pool.text_of p x.desc ≡ Ok x.span.desc.now)
 
 -- the name of the Class at an index
 abbrev pub class_name_of : pool.Entries → ℕ → Result (List ℕ) PoolRule

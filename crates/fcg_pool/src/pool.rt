@@ -23,6 +23,18 @@ pub struct RefSpan<'a> {
     pub desc: &'a [u8],
 }
 
+/// What a reference names, with the indexes of its Utf8s (JVMS 4.4.7).
+#[derive(Clone, Copy)]
+pub struct RefTexts<'a> {
+    pub span: RefSpan<'a>,
+    /// The index of the Utf8 that is the owner's name.
+    pub owner: u16,
+    /// The index of the Utf8 that is the name.
+    pub name: u16,
+    /// The index of the Utf8 that is the descriptor.
+    pub desc: u16,
+}
+
 /// The two indexes of a constant, and its tag.
 #[derive(Clone, Copy)]
 pub struct Indexes {
@@ -55,7 +67,7 @@ impl<'a> Model for Pool<'a> {
 impl<'a> Pool<'a> {
     ghost use Rattle.fcg_views.specs.Breaks.Pool.{Entries, constant_of, text_of, name_of, pair_of, reference_of, handle_of, dynamic_of, slot_kept, pool_at};
     ghost use Rattle.fcg_pool.specs.Entry.{constant_seen};
-    ghost use Rattle.fcg_pool.specs.Seen.{indexes_of, span_of, class_name_of, handle_pair_of};
+    ghost use Rattle.fcg_pool.specs.Seen.{indexes_of, span_of, AreRefTexts, class_name_of, handle_pair_of};
 
     /// The bytes of the file.
     pub fn bytes(&self) -> &'a [u8]
@@ -149,10 +161,13 @@ impl<'a> Pool<'a> {
         }
     }
 
-    /// What the Fieldref, Methodref or InterfaceMethodref at an index names (JVMS 4.4.2).
+    /// What the Fieldref, Methodref or InterfaceMethodref at an index names (JVMS 4.4.2), with the indexes of its Utf8s.
+    /// The error is the rule that the first of its indexes breaks: those of the owner come before those of the name
+    /// and the descriptor.
     #[tactic(auto, unfolding(fcg_views::specs::Breaks::Pool::reference_of))]
-    pub fn reference(&self, index: u16) -> Result<RefSpan<'a>, PoolRule>
-        ensures { seen span_of result ≡ reference_of self.now index }
+    pub fn reference_texts(&self, index: u16) -> Result<RefTexts<'a>, PoolRule>
+        ensures value { seen (λ x. span_of x.span) result ≡ reference_of self.now index }
+        ensures named { IfOk result (AreRefTexts self.now) }
     {
         let pair = self.pair(&[9, 10, 11], index)?;
         let class = self.class_index(pair.first)?;
@@ -160,12 +175,25 @@ impl<'a> Pool<'a> {
         let member = self.pair(&[12], pair.second)?;
         let name = self.utf8(member.first)?;
         let desc = self.utf8(member.second)?;
-        Ok(RefSpan {
-            tag: pair.tag,
-            owner,
-            name,
-            desc,
+        Ok(RefTexts {
+            span: RefSpan {
+                tag: pair.tag,
+                owner,
+                name,
+                desc,
+            },
+            owner: class,
+            name: member.first,
+            desc: member.second,
         })
+    }
+
+    /// What the Fieldref, Methodref or InterfaceMethodref at an index names (JVMS 4.4.2).
+    pub fn reference(&self, index: u16) -> Result<RefSpan<'a>, PoolRule>
+        ensures { seen span_of result ≡ reference_of self.now index }
+    {
+        let texts = self.reference_texts(index)?;
+        Ok(texts.span)
     }
 
     // The kind of the MethodHandle at an index, and the index of what it names.

@@ -13,7 +13,7 @@ pub loop-preserved : goal.loop-preserved
 loop-preserved c =
     let so_far = c.loop.invariant.0 in
     rw c.in_ok-push.ensures.items (
-      entries_go_on c.args.bytes.now c.args.count c.loop.counter c.loop.place so_far.0 c.loop.views.items c.in_ok-view.view c.in_ok-view.after c.read_entry.new.paths _ c.loop-test.true (c.in_ok-view.ensures.value c.loop.counter so_far.0 so_far.1) so_far.2,
+      entries_go_on c.args.bytes.now c.args.count c.loop.counter c.loop.ahead so_far.0 c.loop.views.items c.in_ok-view.view c.in_ok-view.after c.read_entry.new.paths _ c.loop-test.true (c.in_ok-view.ensures.value c.loop.counter so_far.0 so_far.1) so_far.2,
       c.in_ok-view.ensures.inside,
     )
 
@@ -21,9 +21,9 @@ pub returns-in_err-view-clause-value : goal.returns-in_err-view-clause-value
 returns-in_err-view-clause-value c =
     let p = err_from_is_err_and c.from_residual.result c.from_residual.ensures.1 in
     let so_far = c.loop.invariant.0 in
-    rw (p.1, p.2) (rows_fail (entry_at c.args.bytes.now) c.in_err-view.field-0.0 c.loop.views.items c.args.count c.loop.counter (begun c.loop.place so_far.0) _ c.loop-test.true (c.in_err-view.ensures.value c.loop.counter so_far.0 so_far.1) so_far.2)
+    rw (p.1, p.2) (rows_fail (entry_at c.args.bytes.now) c.in_err-view.field-0.0 c.loop.views.items c.args.count c.loop.counter (begun c.loop.ahead so_far.0) _ c.loop-test.true (c.in_err-view.ensures.value c.loop.counter so_far.0 so_far.1) so_far.2)
 
 pub returns-clause-value : goal.returns-clause-value
 returns-clause-value c =
     let so_far = c.loop.invariant.0 in
-    (so_far.0, rw c.from.ensures (rows_done (entry_at c.args.bytes.now) c.loop.views.items c.args.count c.loop.counter (begun c.loop.place so_far.0) _ c.loop-test.false so_far.2))
+    (so_far.0, c.loop.ahead.room, rw c.from.ensures (rows_done (entry_at c.args.bytes.now) c.loop.views.items c.args.count c.loop.counter (begun c.loop.ahead so_far.0) _ c.loop-test.false so_far.2))

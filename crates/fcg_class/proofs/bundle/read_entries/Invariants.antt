@@ -1,11 +1,11 @@
-use Rattle.std.proofs.Common.{◌≡◌, ℕ, List, ◌-◌, ◌≤◌, length, []}
+use Rattle.std.proofs.Common.{◌≡◌, ℕ, List, ◌-◌, ◌≤◌, length}
 use Rattle.fcg_grammar.specs.Rows.{rows}
 use Rattle.fcg_grammar.proofs.RowLemmas.{with_front}
 use Rattle.fcg_class.specs.Bundle.{entry_at}
-use Rattle.fcg_class.specs.Entries.{ArePaths, begun}
+use Rattle.fcg_class.specs.Entries.{ArePaths, begun, start}
 use Rattle.fcg_class.proofs.bundle.read_entries.Given as goal
 
 abbrev pub invariant-loop : goal.invariant-loop
 invariant-loop l =
-    ((before : List (List ℕ)) × ArePaths l.paths before × (with_front l.views.items (rows (entry_at l.bytes) (l.count - l.counter) l.counter (begun l.place before)) ≡ rows (entry_at l.bytes) l.count 0 (begun l.at [])))
-    × (l.place ≤ length l.bytes)
+    ((before : List (List ℕ)) × ArePaths l.paths before × (with_front l.views.items (rows (entry_at l.bytes) (l.count - l.counter) l.counter (begun l.ahead before)) ≡ rows (entry_at l.bytes) l.count 0 (start l.at)))
+    × (l.ahead.at ≤ length l.bytes)

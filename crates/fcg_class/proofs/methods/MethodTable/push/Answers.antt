@@ -1,9 +1,11 @@
-use Rattle.std.proofs.Common.{◌≡◌, ℕ, List, ◌∷◌, [], ◌++◌, get_or, ap, sym, ◌∙◌}
+use Rattle.std.proofs.Common.{◌≡◌, ℕ, List, ◌∷◌, [], ◌++◌, get_or, length, ap, sym, ◌∙◌}
 use Rattle.std.specs.Prelude.{Ok}
 use Rattle.fcg_views.specs.declared.view.Method.{Method}
+use Rattle.fcg_views.specs.declared.view.Site.{Site}
+use Rattle.fcg_views.specs.Valid.{site_count}
 use Rattle.fcg_views.specs.Breaks.Pool.{text_of}
 use Rattle.fcg_class.specs.Methods.{Table, AreSignatures}
-use Rattle.fcg_class.proofs.MethodLemmas.{AreSignatures-push}
+use Rattle.fcg_class.proofs.MethodLemmas.{AreSignatures-push, site_count-push, site_count-few}
 use Rattle.fcg_class.proofs.methods.MethodTable.push.Goals as goal
 
 signatures : (c : goal.After-unwrap) → AreSignatures c.self.inside.pool.now c.self.inside.firsts.items c.insert.new.self (c.self.inside.methods.items ++ c.args.method ∷ [])
@@ -22,4 +24,8 @@ invariant_of-self-2 c =
     let pushed = rw c.unwrap.ensures at c.push.ensures.items in
     let kept = c.reserve.ensures.items in
     let items : c.push.new.self.items ≡ c.self.inside.methods.items ++ c.args.method ∷ [] = pushed ∙ ap (λ (xs : List Method). xs ++ c.args.method ∷ []) kept in
-    rw items (record { firsts_are = c.self.invariant.firsts_are; typed_are = c.self.invariant.typed_are; signatures_are = signatures c })
+    let size = ap (λ (xs : List Site). length xs) c.as_slice.ensures in
+    let before = ap (λ (t : Table). site_count t.methods) c.self.view_is in
+    let counted = site_count-push c.self.inside.sites (length c.as_slice.result.now) c.self.inside.methods.items c.args.method c.self.invariant.counted size in
+    let few = site_count-few c.self.inside.sites (length c.as_slice.result.now) c.self.inside.methods.items c.args.self.now.methods c.args.method c.self.invariant.counted before size c.requires.few in
+    rw items (record { firsts_are = c.self.invariant.firsts_are; signatures_are = signatures c; counted = counted; few = few })

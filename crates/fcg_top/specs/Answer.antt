@@ -14,7 +14,7 @@ use Rattle.fcg_top.specs.declared.status.Refusal.{Refusal}
 use Rattle.fcg_top.specs.declared.status.Refusal.TheVariants as refusals
 use Rattle.fcg_top.specs.declared.status.Stop.{Stop}
 use Rattle.fcg_top.specs.declared.status.Stop.TheVariants as stops
-use Rattle.fcg_top.specs.Text.{line, list_text}
+use Rattle.fcg_top.specs.Text.{line, list_text, sites_text}
 
 -- the length of the longest bundle
 abbrev pub bundle_limit : ℕ
@@ -26,30 +26,35 @@ body_of refusals.BodyTooLong = codes "{\"fault\":\"BodyTooLong\",\"limit\":67108
 body_of refusals.Jar = codes "{\"fault\":\"Jar\"}"
 body_of refusals.NotBuilt = codes "{\"fault\":\"NotBuilt\"}"
 
-abbrev pub list_of_bundle : Result (List View) BundleFault → Result (List ℕ) Refusal
-list_of_bundle (Ok views) = Ok (list_text views)
-list_of_bundle (Err faults.Jar) = Err refusals.Jar
-list_of_bundle (Err faults.NotBuilt) = Err refusals.NotBuilt
+-- what a command prints of a bundle's views
+abbrev pub text_of : Command → List View → List ℕ
+text_of commands.List views = list_text views
+text_of commands.Sites views = sites_text views
 
--- What `list` answers to its input: the text on the output, or a refusal.
-unfoldable pub list_answer : List ℕ → Result (List ℕ) Refusal
-list_answer input = if nat_lt bundle_limit (length input) then Err refusals.BodyTooLong else list_of_bundle (bundle_of input)
+abbrev pub answer_of_bundle : Command → Result (List View) BundleFault → Result (List ℕ) Refusal
+answer_of_bundle command (Ok views) = Ok (text_of command views)
+answer_of_bundle command (Err faults.Jar) = Err refusals.Jar
+answer_of_bundle command (Err faults.NotBuilt) = Err refusals.NotBuilt
 
--- What a command answers to its input. Words of no command write nothing.
+-- What a command answers to its input: the text on the output, or a refusal.
+unfoldable pub command_answer : Command → List ℕ → Result (List ℕ) Refusal
+command_answer command input = if nat_lt bundle_limit (length input) then Err refusals.BodyTooLong else answer_of_bundle command (bundle_of input)
+
+-- What words answer to the input. Words of no command write nothing.
 abbrev pub answer : Option Command → List ℕ → Result (List ℕ) Refusal
-answer (Some commands.List) input = list_answer input
+answer (Some command) input = command_answer command input
 answer None input = Ok []
 
--- What an answer means for the input: a listing is the text of the views of the bundle that the input is; an input is
--- refused where it is too long, else where it is a jar, else where it is no bundle with any content.
-abbrev pub IsListing : List ℕ → Result (List ℕ) Refusal → Type 0
-IsListing input (Ok text) = (length input ≤ bundle_limit) × ((views : List View) × Content input views × (text ≡ list_text views))
-IsListing input (Err refusals.BodyTooLong) = bundle_limit < length input
-IsListing input (Err refusals.Jar) = (length input ≤ bundle_limit) × IsTrue (is_jar input)
-IsListing input (Err refusals.NotBuilt) = (length input ≤ bundle_limit) × (IsTrue (is_jar input) → ⊥) × ((views : List View) → Content input views → ⊥)
+-- What an answer means for the input: what is printed is the command's text of the views of the bundle that the input
+-- is; an input is refused where it is too long, else where it is a jar, else where it is no bundle with any content.
+abbrev pub IsPrinted : Command → List ℕ → Result (List ℕ) Refusal → Type 0
+IsPrinted command input (Ok text) = (length input ≤ bundle_limit) × ((views : List View) × Content input views × (text ≡ text_of command views))
+IsPrinted command input (Err refusals.BodyTooLong) = bundle_limit < length input
+IsPrinted command input (Err refusals.Jar) = (length input ≤ bundle_limit) × IsTrue (is_jar input)
+IsPrinted command input (Err refusals.NotBuilt) = (length input ≤ bundle_limit) × (IsTrue (is_jar input) → ⊥) × ((views : List View) → Content input views → ⊥)
 
 abbrev pub IsAnswer : Option Command → List ℕ → Result (List ℕ) Refusal → Type 0
-IsAnswer (Some commands.List) input answer = IsListing input answer
+IsAnswer (Some command) input answer = IsPrinted command input answer
 IsAnswer None input answer = Unit {0}
 
 -- what an answer that a run gave means

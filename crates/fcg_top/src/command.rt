@@ -1,35 +1,32 @@
 //! The commands, from the bytes in to the bytes out.
-ghost use Rattle.std.specs.Prelude.{◌≡◌, ◌≢◌, ◌↔◌, ◌≤◌, map, string_bytes, None, Some, IfSome, IsErrOf};
+ghost use Rattle.std.specs.Prelude.{◌≡◌, ◌≢◌, ◌↔◌, ◌≤◌, map, string_bytes, None, Some, IfSome, IfOk, IsErrOf};
 ghost use Rattle.std.specs.Io.KnownBytes.{Keeps};
 ghost use Rattle.fcg_bytes.specs.Causes.{Rose};
 ghost use Rattle.fcg_top.specs.Words.{command_of};
-ghost use Rattle.fcg_top.specs.Answer.{list_answer, answer, Leaves, Tells, errors_of, Makes, Means, IsMeant};
+ghost use Rattle.fcg_top.specs.Answer.{text_of, answer, Leaves, Tells, errors_of, Makes, Means, IsMeant};
 
 use crate::status::{Status, Stop};
-use crate::text::print_list;
+use crate::text::{print_list, print_sites};
 use crate::words::{Command, parse_words};
 use fcg_bytes::{Sink, Source, read_all, write_whole};
 use fcg_class::read_bundle;
-use fcg_views::Bytes;
+use fcg_views::{Bytes, NoMemory, Views};
 use std::alloc::Global;
 
 const BUNDLE_LIMIT: usize = 67_108_864;
 
-// What `list` prints for its input.
-#[tactic(auto, unfolding(crate::specs::Answer::list_answer))]
-fn list<S: Source>(alloc: Global, input: &mut S) -> Result<Bytes, Stop>
-    ensures answer { IfSome (S.left input.old) (λ bytes. Makes (λ text. text) result (list_answer bytes)) }
-    ensures means { IfSome (S.left input.old) (λ bytes. IsMeant (Some Command.List) bytes result) }
-    ensures failed { IsErrOf result Stop.ReadFailed → Rose (S.faults input.old) (S.faults input.new) }
-    ensures later { S.faults input.old ≤ S.faults input.new }
-    ensures aside { S.aside input.new ≡ S.aside input.old }
+// What a command prints of a bundle's views.
+fn print_views(alloc: Global, command: Command, views: &Views) -> Result<Bytes, NoMemory>
+    ensures { IfOk result (λ text. text ≡ text_of command views.now) }
 {
-    let bytes = read_all(alloc, input, BUNDLE_LIMIT)?;
-    let views = read_bundle(alloc, bytes.as_slice())?;
-    Ok(print_list(alloc, &views)?)
+    match command {
+        Command::List => print_list(alloc, views),
+        Command::Sites => print_sites(alloc, views),
+    }
 }
 
 // What a command prints for its input.
+#[tactic(auto, unfolding(crate::specs::Answer::command_answer))]
 fn answer_input<S: Source>(alloc: Global, command: Command, input: &mut S) -> Result<Bytes, Stop>
     ensures answer { IfSome (S.left input.old) (λ bytes. Makes (λ text. text) result (answer (Some command) bytes)) }
     ensures means { IfSome (S.left input.old) (λ bytes. IsMeant (Some command) bytes result) }
@@ -37,9 +34,9 @@ fn answer_input<S: Source>(alloc: Global, command: Command, input: &mut S) -> Re
     ensures later { S.faults input.old ≤ S.faults input.new }
     ensures aside { S.aside input.new ≡ S.aside input.old }
 {
-    match command {
-        Command::List => list(alloc, input),
-    }
+    let bytes = read_all(alloc, input, BUNDLE_LIMIT)?;
+    let views = read_bundle(alloc, bytes.as_slice())?;
+    Ok(print_views(alloc, command, &views)?)
 }
 
 // Writes a line on the errors, as far as they take it.
@@ -68,7 +65,8 @@ pub fn run<S: Source, W: Sink, E: Sink>(
     ensures output { IfSome (S.left input.old) (λ bytes.
         Leaves result (answer (command_of (map string_bytes words.now)) bytes) (W.taken output.old) (W.taken output.new)) }
 
-    // That answer is right: a listing is that of the bundle that the input is, and a refusal has its cause in the input.
+    // That answer is right: what is printed is the command's text of the bundle that the input is, and a refusal has its
+    // cause in the input.
     ensures means { IfSome (S.left input.old) (λ bytes.
         Means result (command_of (map string_bytes words.now)) bytes (answer (command_of (map string_bytes words.now)) bytes)) }
 

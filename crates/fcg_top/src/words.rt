@@ -7,6 +7,8 @@ ghost use Rattle.fcg_top.specs.Words.{command_of};
 pub enum Command {
     /// Prints the types and methods of a bundle.
     List,
+    /// Prints the call sites of a bundle.
+    Sites,
 }
 
 /// The command that the words after the program's name give, or `None` for words of no command.
@@ -15,6 +17,7 @@ pub fn parse_words(words: &[String]) -> Option<Command>
 {
     match words {
         [word] if word.as_str() == "list" => Some(Command::List),
+        [word] if word.as_str() == "sites" => Some(Command::Sites),
         _ => None,
     }
 }

@@ -1,15 +1,16 @@
 #!/usr/bin/env python3
-"""Compares ./fcg list with plain.py on mutated small bundles.
+"""Compares ./fcg list and ./fcg sites with plain.py on mutated small bundles.
 
 Hand-made class files and some of javac are changed: one byte to each of several values at every place,
 truncation at every length, doubled, dropped and swapped slices, random edits, random class files that are
-nearly plain, and a list of edges of the formats. All that is random comes from a fixed seed. Each input is
-one run of the program; its status, output and errors must be those of plain.py. At the first difference
+nearly plain, and lists of edges of the formats. All that is random comes from a fixed seed. Each input is
+one run of each command; its status, output and errors must be those of plain.py. At the first difference
 the input is printed in hex, and the exit status is 1.
 """
 
 import argparse
 import collections
+import hashlib
 import os
 import random
 import shutil
@@ -18,6 +19,7 @@ import sys
 import tempfile
 import time
 
+import code_edges
 import hostile
 import measure
 import plain
@@ -27,6 +29,11 @@ SEED = 20240229
 SOURCE = """package p.q$r;
 @Deprecated interface I\u00e9<T> extends java.util.List<T> {
     <X extends Exception> int[] m(T a, long[][] b) throws X; void n(); interface J { I\u00e9<J> j(); }
+}
+abstract class C extends Thread {
+    C(String a) { super(a); }
+    int c(int a, java.util.List<String> b) { switch (a) { case 1: b.get(a).trim(); case 2: return Math.abs(a); default: }
+        switch (a) { case 7: run(); case 900: b.size(); } try { return c(a, b); } finally { b.clear(); } }
 }
 """
 
@@ -357,10 +364,11 @@ def bundle_edges():
 def inputs():
     """Every input with the name of its kind."""
     chance = random.Random(SEED)
-    bases = [tiny(), rich()] + of_javac()
+    bases = [tiny(), rich(), code_edges.dense()] + of_javac()
     yield from (("edges of bundles", data) for data in bundle_edges())
     yield from (("edges of class files", data) for data in class_edges())
     yield from (("edges of descriptors", with_descriptor(text)) for text in descriptor_edges())
+    yield from (("edges of code", alone(body)) for body in code_edges.edges())
     pair = plain.pack([(b"p/A.class", bases[0]), (b"B.class", bases[0])])
     yield from (("bundle, byte changed", data) for data in bytes_changed(pair))
     yield from (("bundle, truncated", data) for data in truncated(pair))
@@ -368,20 +376,21 @@ def inputs():
     yield from (("bundle, edits", data) for data in edited(pair, chance, 100))
     for body in bases[1:]:
         yield "class file", alone(body)
-        yield from (("class file, byte changed", alone(data)) for data in bytes_changed(body, 5 if body == bases[1] else 3))
+        yield from (("class file, byte changed", alone(data)) for data in bytes_changed(body, 5 if body in bases[1:3] else 2))
         yield from (("class file, truncated", alone(data)) for data in truncated(body))
         yield from (("class file, slices", alone(data)) for data in sliced(body, chance, 100))
         yield from (("class file, edits", alone(data)) for data in edited(body, chance, 200))
     yield from (("class file, nearly plain", alone(nearly(chance))) for _ in range(600))
+    yield from (("code, nearly plain", alone(code_edges.nearly(chance))) for _ in range(1000))
     for count in (2, 3, 5):
         for _ in range(20):
             yield "bundle, nearly plain", plain.pack(
-                [(b"%d.class" % number, nearly(chance)) for number in range(count)])
+                [(b"%d.class" % number, chance.choice((nearly, code_edges.nearly))(chance)) for number in range(count)])
 
 
-def run_in_pieces(data, size):
+def run_in_pieces(data, size, words):
     """As measure.run_bytes, but the input comes in pieces of a few bytes."""
-    child = subprocess.Popen(measure.LIST, stdin=subprocess.PIPE, stdout=subprocess.PIPE, stderr=subprocess.PIPE, bufsize=0)
+    child = subprocess.Popen(words, stdin=subprocess.PIPE, stdout=subprocess.PIPE, stderr=subprocess.PIPE, bufsize=0)
     try:
         for start in range(0, len(data), size):
             child.stdin.write(data[start:start + size])
@@ -404,57 +413,81 @@ def differ(kind, data, got, want):
     print("DIFFERENCE: %s\n  input %s\n  fcg      %r\n  plain.py %r" % (kind, shown, got, want), flush=True)
 
 
+class Tally:
+    """What was compared so far."""
+
+    def __init__(self, options):
+        self.options = options
+        self.counts = collections.Counter()
+        self.differences = 0
+        self.pieces = 0
+        self.runs = 0
+
+    def compare(self, kind, data, words, want):
+        """Compares one run of the program, and some once more with the input in pieces."""
+        self.runs += 1
+        got = measure.run_bytes(data, words)
+        if got == want and self.runs % 50 == 0 and len(data) < 5000:
+            self.pieces += 1
+            got = run_in_pieces(data, 1 + self.runs % 7, words)
+        if got != want:
+            differ("%s, %s" % (kind, words[1:]), data, got, want)
+            self.differences += 1
+            if not self.options.all:
+                sys.exit(1)
+
+    def try_input(self, kind, data):
+        """Compares both commands on one input."""
+        what = "read"
+        for command, words in measure.COMMANDS.items():
+            want = plain.answer(data, command)
+            if want[0] != 0:
+                what = want[2].decode().strip()
+            if not self.options.count:
+                self.compare(kind, data, words, want)
+        self.counts[kind, what] += 1
+
+    def show(self):
+        """Prints the counts."""
+        totals = collections.Counter()
+        for (kind, what), count in sorted(self.counts.items()):
+            print("%-28s %-24s %6d" % (kind, what, count))
+            totals[what] += count
+        for what, count in sorted(totals.items()):
+            print("%-28s %-24s %6d" % ("all", what, count))
+        print("%d inputs, %d runs, %d of them also in pieces, %d differences"
+              % (sum(totals.values()), self.runs, self.pieces, self.differences))
+
+
+NO_COMMANDS = ([], ["lis"], ["list", "list"], ["list", ""], ["LIST"], [""], ["--help"], ["list\n"], [" list"], ["-"],
+               ["list", "-"], ["\u00e9"], ["site"], ["sites", "sites"], ["sites", ""], ["SITES"], ["list", "sites"],
+               ["sites\n"], ["sites", "-"], [" sites"])
+
+
 def main():
     """Runs every input."""
     parser = argparse.ArgumentParser(description=__doc__, formatter_class=argparse.RawDescriptionHelpFormatter)
     parser.add_argument("--all", action="store_true", help="go on after a difference")
     parser.add_argument("--count", action="store_true", help="only count the inputs by kind and by what plain.py says")
+    parser.add_argument("--kinds", nargs="*", metavar="WORD", help="only the kinds of inputs with one of these words")
     options = parser.parse_args()
-    measure.ready()
-    counts = collections.Counter()
-    seen = set()
-    differences = 0
+    if not options.count:
+        measure.ready()
     begin = time.monotonic()
-    pieces = 0
+    tally = Tally(options)
+    seen = set()
     for kind, data in inputs():
-        if data in seen:
-            continue
-        seen.add(data)
-        want = plain.answer(data)
-        what = "listed" if want[0] == 0 else want[2].decode().strip()
-        counts[kind, what] += 1
-        if options.count:
-            continue
-        got = measure.run_bytes(data)
-        if got == want and len(seen) % 50 == 0 and len(data) < 5000:
-            pieces += 1
-            got = run_in_pieces(data, 1 + len(seen) % 7)
-        if got != want:
-            differ(kind, data, got, want)
-            differences += 1
-            if not options.all:
-                return 1
-    for words in ([], ["lis"], ["list", "list"], ["list", ""], ["LIST"], [""], ["--help"], ["list\n"], [" list"], ["-"],
-                  ["list", "-"], ["\u00e9"]):
-        if options.count:
-            break
-        counts["words", "words"] += 1
-        got = measure.run_bytes(alone(tiny()), [measure.FCG] + words)
-        if got != (2, b"", b"words\n"):
-            differ("words", words, got, (2, b"", b"words\n"))
-            differences += 1
-            if not options.all:
-                return 1
-    for (kind, what), count in sorted(counts.items()):
-        print("%-28s %-24s %6d" % (kind, what, count))
-    totals = collections.Counter()
-    for (_, what), count in counts.items():
-        totals[what] += count
-    for what, count in sorted(totals.items()):
-        print("%-28s %-24s %6d" % ("all", what, count))
-    print("%d inputs, %d of them also in pieces, %d differences, %.0f s"
-          % (sum(totals.values()), pieces, differences, time.monotonic() - begin))
-    return 1 if differences else 0
+        mark = hashlib.sha256(data).digest()
+        if mark not in seen and (not options.kinds or any(word in kind for word in options.kinds)):
+            seen.add(mark)
+            tally.try_input(kind, data)
+    if not options.count:
+        for words in NO_COMMANDS:
+            tally.counts["words", "words"] += 1
+            tally.compare("words", alone(tiny()), [measure.FCG] + words, (2, b"", b"words\n"))
+    tally.show()
+    print("%.0f s" % (time.monotonic() - begin))
+    return 1 if tally.differences else 0
 
 
 if __name__ == "__main__":

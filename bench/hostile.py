@@ -1,11 +1,11 @@
 #!/usr/bin/env python3
-"""Times ./fcg list on inputs that a stranger could send, beside cat of the same bytes.
+"""Times ./fcg list and ./fcg sites on inputs that a stranger could send, beside cat of the same bytes.
 
 Each input is about as large as the limits allow. The status, the output and the fault of each run are
 compared with plain.py; where a case can be made smaller, a second row shows it at a quarter of its size, so
-that growth can be seen. A run is bound to 120 seconds and to 8 GiB. The table has the bytes in and out, the
-status, the least seconds of ./fcg list and of cat (their output to /dev/null), the quotient, and the peak
-memory of one run of ./fcg list.
+that growth can be seen. A run is bound to 120 seconds and to 8 GiB. The table has the command, the bytes in
+and out, the status, the least seconds of ./fcg and of cat (their output to /dev/null), the quotient, and the
+peak memory of one run of ./fcg.
 """
 
 import argparse
@@ -67,6 +67,26 @@ class Pool:
         """The index of a new Class entry with a new name."""
         return self.class_entry(self.utf8(text))
 
+    def entry(self, tag, *indexes):
+        """The index of a new entry of a tag and indexes."""
+        self.parts.append(bytes([tag]) + b"".join(u2(index) for index in indexes))
+        return len(self.parts)
+
+    def raw(self, data, more=0):
+        """The index of a new entry of these bytes, after which `more` indexes name nothing."""
+        self.parts.append(data)
+        index = len(self.parts)
+        self.parts += [b""] * more
+        return index
+
+    def pair(self, name, descriptor):
+        """The index of a new NameAndType with a new name and a new descriptor."""
+        return self.entry(12, self.utf8(name), self.utf8(descriptor))
+
+    def called(self, owner=b"o/W", name=b"go", descriptor=b"()V", tag=10):
+        """The index of a new Methodref, or of another tag, with a new owner, name and descriptor."""
+        return self.entry(tag, self.named(owner), self.pair(name, descriptor))
+
     def data(self):
         """The count and the entries."""
         return u2(len(self.parts) + 1) + b"".join(self.parts)
@@ -80,6 +100,21 @@ def class_file(pool, this, methods=(), interfaces=b"", attributes=b"\x00\x00", s
         parts.append(b"\x00\x01" + u2(name) + u2(descriptor) + more)
     parts.append(attributes)
     return b"".join(parts)
+
+
+def code_content(code, rows=b"", inner=b"\0\0", length=None):
+    """The content of a Code attribute; `length` stands in it where it isn't that of the code."""
+    return (u2(1) + u2(1) + u4(len(code) if length is None else length) + code + u2(len(rows) // 8) + rows + inner)
+
+
+def attribute(name, content, length=None):
+    """An attribute of a name index; `length` stands in it where it isn't that of the content."""
+    return u2(name) + u4(len(content) if length is None else length) + content
+
+
+def attributes(*rows):
+    """A count and the attributes."""
+    return u2(len(rows)) + b"".join(rows)
 
 
 def smallest():
@@ -300,36 +335,208 @@ def long_type():
     return class_file(pool, pool.named(b"." * U2))
 
 
-def expected(data):
+PER_CODE = U2 // 3
+STATIC = b"\xb8"
+
+
+def coded(pool, this, code, methods, more=b""):
+    """A class file of methods that all have these bytes as the content of their Code attribute."""
+    kind = pool.utf8(b"()V")
+    word = pool.utf8(b"Code")
+    some = attributes(attribute(word, code)) + more
+    names = [pool.utf8(stem(number)) for number in range(methods)]
+    return class_file(pool, this, [(name, kind, some) for name in names])
+
+
+def calls(sites, owner=b"A", name=b"a", descriptor=b"()V"):
+    """A class file of so many calls of one method, 21,845 to a code."""
+    pool = Pool()
+    this = pool.named(b"A")
+    called = pool.called(owner, name, descriptor)
+    kind = pool.utf8(b"()V")
+    word = pool.utf8(b"Code")
+    methods = []
+    while sites > 0:
+        count = min(sites, PER_CODE)
+        some = attributes(attribute(word, code_content((STATIC + u2(called)) * count)))
+        methods.append((pool.utf8(stem(len(methods))), kind, some))
+        sites -= count
+    return class_file(pool, this, methods)
+
+
+def caller(sites, name, descriptor=b"()V"):
+    """A class file of one method of this name and descriptor that has so many calls."""
+    pool = Pool()
+    this = pool.named(b"A")
+    called = pool.called(b"A", b"a")
+    some = attributes(attribute(pool.utf8(b"Code"), code_content((STATIC + u2(called)) * sites)))
+    return class_file(pool, this, [(pool.utf8(name), pool.utf8(descriptor), some)])
+
+
+def bundle_of(*bodies):
+    """A bundle of class files."""
+    return plain.pack([(b"%d.class" % number, body) for number, body in enumerate(bodies)])
+
+
+def each_called(count, names=None, descriptor=b"()V", rounds=1):
+    """A class file that calls `count` methods, `rounds` times each, all of one descriptor.
+
+    The names share a front of `names` bytes, or are one name.
+    """
+    pool = Pool()
+    this = pool.named(b"A")
+    kind = pool.utf8(descriptor)
+    one_name = pool.utf8(b"a")
+    indexes = []
+    for number in range(count):
+        name = one_name if names is None else pool.utf8(b"n" * names + stem(number))
+        indexes.append(pool.entry(10, this, pool.entry(12, name, kind)))
+    void = pool.utf8(b"()V")
+    word = pool.utf8(b"Code")
+    methods = []
+    for _ in range(rounds):
+        for start in range(0, count, PER_CODE):
+            code = b"".join(STATIC + u2(index) for index in indexes[start:start + PER_CODE])
+            methods.append((pool.utf8(stem(len(methods))), void, attributes(attribute(word, code_content(code)))))
+    return class_file(pool, this, methods)
+
+
+def repeated(code):
+    """The content of a Code attribute of as many of these instructions as fit in 65,535 bytes."""
+    return code_content(code * (U2 // len(code)))
+
+
+def switches(rows):
+    """Code of tableswitches and lookupswitches of so many rows, one after the other."""
+    code = b""
+    while True:
+        front = b"\xaa" + bytes(3 - len(code) % 4) + bytes(8) + u4(rows - 1) + b"\xca" * (4 * rows)
+        if len(code + front) > U2:
+            return code
+        code += front
+        front = b"\xab" + bytes(3 - len(code) % 4) + bytes(4) + u4(rows) + b"\xca" * (8 * rows)
+        if len(code + front) > U2:
+            return code
+        code += front
+
+
+def code_body(content, part=1.0):
+    """A class file of as many methods as fit in a bundle that all have this content of their Code attribute."""
+    pool = Pool()
+    this = pool.named(b"A")
+    count = min(POOL - 6, (LIMIT - 1000000) // (len(content) + 16))
+    return coded(pool, this, content, int(count * part))
+
+
+def inner_body(part, name):
+    """A class file of methods whose Code has 65,535 empty attributes of this name."""
+    pool = Pool()
+    this = pool.named(b"A")
+    some = u2(U2) + (u2(pool.utf8(name)) + u4(0)) * U2
+    return coded(pool, this, code_content(b"\xb1", inner=some), int(169 * part))
+
+
+def code_cases():
+    """Each case of code: its name, a function of its part, whether it has a quarter, and its commands."""
+    both = ("list", "sites")
+    name, owner = b"n" * U2, b"o" * U2
+    most = PER_CODE * 45
+
+    def thousand(part):
+        """A thousand class files of some calls each, 4,000,001 in all where the part is 1."""
+        body = calls(4000)
+        return bundle_of(*[body] * int(1000 * part), calls(1))
+
+    yield "1000000 calls in one class file", lambda part: one(calls(int(1000000 * part))), True, both
+    yield "1000001 calls in one class file, refused", lambda part: one(calls(1000001)), False, both
+    yield "4000000 calls in four class files", lambda part: bundle_of(*[calls(int(1000000 * part))] * 4), True, both
+    yield "4000001 calls in five class files, refused", lambda part: bundle_of(*[calls(1000000)] * 4, calls(1)), False, both
+    yield "4000001 calls in 1001 class files, refused", thousand, False, both
+    yield "4000000 calls in 1000 class files", lambda part: bundle_of(*[calls(4000)] * int(1000 * part)), True, both
+    for descriptor, what in ((b"()V", "short descriptor"), (LONG_CLASS, "descriptor of one class name"),
+                             (ARRAYS, "descriptor of 255 arrays of 255")):
+        yield ("983025 calls of one long reference, %s" % what,
+               lambda part, d=descriptor: one(calls(int(most * part), owner, name, d)), True, ("list",))
+        yield ("the same, in four class files",
+               lambda part, d=descriptor: bundle_of(*[calls(int(most * part), owner, name, d)] * 4), True, ("list",))
+        yield ("the same, in four class files, refused",
+               lambda part, d=descriptor: spoiled(bundle_of(*[calls(int(most * part), owner, name, d)] * 4)), True, both)
+    yield "21845 calls of a name of 65535 bytes", lambda part: one(calls(int(PER_CODE * part), name=name)), True, both
+    yield "21845 calls of an owner of 65535 escaped bytes", lambda part: one(calls(int(PER_CODE * part), b"." * U2)), False, both
+    yield "21845 calls in a method of a name of 65535 bytes", lambda part: one(caller(int(PER_CODE * part), name)), True, both
+    yield ("21845 calls in a method of a long descriptor",
+           lambda part: one(caller(int(PER_CODE * part), b"a", ARRAYS)), False, both)
+    for descriptor, what in ((LONG_CLASS, "one class name"), (ARRAYS, "255 arrays of 255")):
+        yield ("32000 references of one long descriptor, %s, each called" % what,
+               lambda part, d=descriptor: one(each_called(int(32000 * part), descriptor=d)), True, both)
+        yield ("15000 references of one long descriptor, %s, each called, copies to the limit" % what,
+               lambda part, d=descriptor: full(each_called(15000, descriptor=d), int(LIMIT * part)), True, ("list",))
+        yield ("the same, refused",
+               lambda part, d=descriptor: spoiled(full(each_called(15000, descriptor=d), int(LIMIT * part))), True, both)
+    yield ("20000 references, names sharing 1000 bytes, each called 40 times",
+           lambda part: one(each_called(20000, 1000, rounds=int(40 * part))), True, both)
+    yield "65528 methods of a code of one byte", lambda part: one(code_body(code_content(b"\xb1"), part)), True, both
+    yield ("the same, copies to the limit",
+           lambda part: full(code_body(code_content(b"\xb1")), int(LIMIT * part)), True, both)
+    for code, what in ((b"\x00", "00"), (b"\x10\x00", "10 00"), (b"\x11\0\0", "11 00 00"), (b"\xc4\x15\0\0", "c4 15 00 00"),
+                       (b"\xc8\0\0\0\0", "c8 00 00 00 00"), (b"\x00\x10\xca\x11\xca\xca", "00 10 ca 11 ca ca")):
+        yield ("codes of 65535 bytes to the limit, of %s" % what,
+               lambda part, c=code: one(code_body(repeated(c), part)), True, both)
+    for rows in (1, 10, 5400):
+        yield ("codes of switches of %d rows to the limit" % rows,
+               lambda part, r=rows: one(code_body(code_content(switches(r)), part)), True, both)
+    wide = b"\xaa" + bytes(3 + 4 + 4) + b"\x7f\xff\xff\xff" + bytes(60000)
+    yield "a switch of 2147483648 rows, refused", lambda part: one(code_body(code_content(wide))), False, both
+    yield ("65535 exception rows on 127 methods",
+           lambda part: one(code_body(code_content(b"\xb1", bytes(8 * U2)), part)), True, both)
+    yield "65535 empty attributes in the code of 169 methods", lambda part: one(inner_body(part, b"")), True, both
+    yield ("the same, name of 65535 bytes",
+           lambda part: one(inner_body(part, (b"BootstrapMethods" * 5000)[:U2])), True, both)
+    yield ("the same, a name that is refused", lambda part: one(inner_body(part, b"BootstrapMethods")), False, both)
+
+
+def views(data):
+    """The views of a plain bundle, or None."""
+    if len(data) > LIMIT or data[:4] == plain.JAR:
+        return None
+    return plain.views(data)
+
+
+def expected(data, found, command):
     """The status, the size and SHA-256 of the output, and the errors that plain.py says."""
     state = hashlib.sha256()
-    if len(data) > LIMIT or data[:4] == plain.JAR:
-        found = None
-    else:
-        found = plain.views(data)
     if found is None:
         return 3, 0, state.hexdigest(), plain.answer(data)[2]
     size = 0
-    for line in plain.lines(found):
+    for line in plain.LINES[command](found):
         size += len(line)
         state.update(line)
     return 0, size, state.hexdigest(), b""
 
 
-def measure_case(folder, name, data, runs):
-    """Measures one input, compares with plain.py and prints its row; gives whether they agree."""
+def measure_case(folder, name, data, runs, commands):
+    """Measures one input with some commands; gives whether each agrees with plain.py."""
     path = measure.write(folder, "input", data)
-    want = expected(data)
-    got = measure.weigh(path, bound=BOUND)
+    found = views(data)
+    cats, _ = measure.least(path, measure.CAT, runs)
+    agree = True
+    for command in commands:
+        agree = measure_run(path, name, data, runs, command, expected(data, found, command), cats) and agree
+    return agree
+
+
+def measure_run(path, name, data, runs, command, want, cats):
+    """Measures one input with one command and prints its row; gives whether it is as wanted."""
+    words = measure.COMMANDS[command]
+    got = measure.weigh(path, words, bound=BOUND)
     if got.status is None or got.status not in (0, 3):
         ours, made = None, 1
     else:
-        ours, made = measure.least(path, measure.LIST, runs, BOUND, BUDGET)
-    cats, _ = measure.least(path, measure.CAT, runs)
+        ours, made = measure.least(path, words, runs, BOUND, BUDGET)
     times = "-" if ours is None else "%.1f" % (ours / cats)
     status = "time" if got.status is None else str(got.status)
-    print("| %-58s | %10d | %12d | %6s | %9s | %7s | %8s | %9s | %4d |"
-          % (name, len(data), got.size, status, measure.show(ours), measure.show(cats), times,
+    print("| %-64s | %-7s | %10d | %12d | %6s | %9s | %7s | %8s | %9s | %4d |"
+          % (name, command, len(data), got.size, status, measure.show(ours), measure.show(cats), times,
              "-" if got.peak is None or got.status is None else got.peak, made), flush=True)
     if got.status is None:
         print("    the bound of %.0f s was passed" % BOUND, flush=True)
@@ -344,6 +551,29 @@ def measure_case(folder, name, data, runs):
     return False
 
 
+def all_cases():
+    """Every case with its commands."""
+    for name, build, quarters in cases():
+        yield name, build, quarters, ("list",)
+    yield from code_cases()
+
+
+def chosen(options):
+    """The cases that are asked for, with their whole names."""
+    before = ""
+    start = options.start
+    for name, build, quarters, commands in all_cases():
+        if name.startswith("the same"):
+            label = before + ": " + name[len("the same"):].lstrip(", ")
+        else:
+            label = before = name
+        if start and start not in label:
+            continue
+        start = None
+        if not options.words or any(word in label for word in options.words):
+            yield label, build, quarters and not options.whole, commands
+
+
 def main():
     """Measures every case, or those with a word in their names."""
     parser = argparse.ArgumentParser(description=__doc__, formatter_class=argparse.RawDescriptionHelpFormatter)
@@ -351,30 +581,23 @@ def main():
     parser.add_argument("--runs", type=int, default=5, help="runs of each, the least counts (5)")
     parser.add_argument("--from", dest="start", help="only the cases from the first one with this word in its name on")
     parser.add_argument("--whole", action="store_true", help="no rows of a quarter of the size")
+    parser.add_argument("--names", action="store_true", help="only print the names of the cases and their sizes")
     options = parser.parse_args()
+    if options.names:
+        for label, build, _, commands in chosen(options):
+            print("%-80s %10d  %s" % (label, len(build(1)), " ".join(commands)), flush=True)
+        return 0
     measure.ready()
     measure.bind_memory()
-    print("| %-58s | %10s | %12s | %6s | %9s | %7s | %8s | %9s | runs |"
-          % ("case", "bytes in", "bytes out", "status", "list s", "cat s", "quotient", "peak KiB"))
-    print("|-" + " | ".join(["-" * 58, "-" * 10, "-" * 12, "-" * 6, "-" * 9, "-" * 7, "-" * 8, "-" * 9, "-" * 4])
-          .replace(" ", "-") + "-|")
+    print("| %-64s | %-7s | %10s | %12s | %6s | %9s | %7s | %8s | %9s | runs |"
+          % ("case", "command", "bytes in", "bytes out", "status", "fcg s", "cat s", "quotient", "peak KiB"))
+    print("|" + "|".join("-" * (width + 2) for width in (64, 7, 10, 12, 6, 9, 7, 8, 9, 4)) + "|")
     agree = True
-    before = ""
     with tempfile.TemporaryDirectory() as folder:
-        for name, build, quarters in cases():
-            if name.startswith("the same"):
-                label = before + ": " + name[len("the same"):].lstrip(", ")
-            else:
-                label = before = name
-            if options.start:
-                if options.start not in label:
-                    continue
-                options.start = None
-            if options.words and not any(word in label for word in options.words):
-                continue
-            if quarters and not options.whole:
-                agree = measure_case(folder, "(a quarter)", build(0.25), options.runs) and agree
-            agree = measure_case(folder, label, build(1), options.runs) and agree
+        for label, build, quarters, commands in chosen(options):
+            if quarters:
+                agree = measure_case(folder, "(a quarter)", build(0.25), options.runs, commands) and agree
+            agree = measure_case(folder, label, build(1), options.runs, commands) and agree
     print("no difference" if agree else "FAILED: there are differences")
     return 0 if agree else 1
 

@@ -12,6 +12,8 @@ import time
 TOP = os.path.dirname(os.path.dirname(os.path.abspath(__file__)))
 FCG = os.path.join(TOP, "fcg")
 LIST = [FCG, "list"]
+SITES = [FCG, "sites"]
+COMMANDS = {"list": LIST, "sites": SITES}
 CAT = ["cat"]
 WEIGH = "/usr/bin/time"
 MEMORY = 8 << 30

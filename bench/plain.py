@@ -2,7 +2,7 @@
 """An independent reader of plain class files and plain bundles.
 
 It is written from the formats' description (after JVMS 4) and shares no code with the program, so that
-the two can be compared byte by byte. As a script it answers as `fcg list` should.
+the two can be compared byte by byte. As a script it answers as `fcg list` or `fcg sites` should.
 """
 
 import re
@@ -10,6 +10,9 @@ import struct
 import sys
 
 LIMIT = 67108864
+CLASS_SITES = 1000000
+BUNDLE_SITES = 4000000
+CODE = 65535
 JAR = b"PK\x03\x04"
 BODY_TOO_LONG = b'{"fault":"BodyTooLong","limit":67108864}\n'
 JAR_FAULT = b'{"fault":"Jar"}\n'
@@ -20,7 +23,7 @@ _UTF8 = re.compile(rb"(?:[\x01-\x7f]|[\xc0-\xdf][\x80-\xbf]|[\xe0-\xef][\x80-\xb
 # a field descriptor; the group is its J or D where it is no array
 _FIELD = re.compile(rb"\[{0,255}(?:[BCFISZ]|([DJ])|L[^;]+;)", re.S)
 _WORD = b"ABCDEFGHIJKLMNOPQRSTUVWXYZabcdefghijklmnopqrstuvwxyz0123456789_-$"
-_FORBIDDEN = (b"Code", b"BootstrapMethods")
+_FORBIDDEN = b"BootstrapMethods"
 
 
 class _NotPlain(Exception):
@@ -159,11 +162,127 @@ def _class_name(pool, index):
     return name
 
 
-def _pass_attributes(reader, pool):
-    """Passes over a count of attributes, none of them of a forbidden name."""
-    for _ in range(reader.u2()):
-        _need(_utf8(pool, reader.u2()) not in _FORBIDDEN)
-        reader.take(reader.u4())
+def _set(*numbers):
+    """A set of opcodes as a part of a pattern; a pair stands for all from its first to its last."""
+    parts = []
+    for one in numbers:
+        low, high = one if isinstance(one, tuple) else (one, one)
+        parts.append(b"\\x%02x-\\x%02x" % (low, high))
+    return b"[" + b"".join(parts) + b"]"
+
+
+# the instructions of which only the length matters; . is a byte
+_ONE = _set((0, 15), (26, 53), (59, 131), (133, 152), (172, 177), 190, 191, 194, 195)
+_LOCAL = _set((21, 25), (54, 58), 169)
+_TWO = _set(16, 18, 188)
+_THREE = _set(17, 19, 20, 132, (153, 168), 180, 181, 189, 192, 193, 198, 199)
+_FIVE = _set(200, 201)
+_PASSED = re.compile(b"(?:%s+|%s.|%s.|%s..|\\xc5...|%s....|\\xc4%s..|\\xc4\\x84....)*"
+                     % (_ONE, _LOCAL, _TWO, _THREE, _FIVE, _LOCAL), re.S)
+# the instructions of sites: the kind, the length, and the tags of what is called
+_CALLS = {182: (b"virtual", 3, (10,)), 183: (b"special", 3, (10, 11)), 184: (b"static", 3, (10, 11)),
+          185: (b"interface", 5, (11,))}
+_TABLE = 170
+_LOOKUP = 171
+
+
+def _after_switch(code, at):
+    """The place after the switch at `at`."""
+    start = at + 4 - at % 4
+    if code[at] == _TABLE:
+        _need(start + 12 <= len(code))
+        low, high = struct.unpack_from(">ii", code, start + 4)
+        _need(low <= high)
+        end = start + 12 + 4 * (high - low + 1)
+    else:
+        _need(start + 8 <= len(code))
+        pairs = struct.unpack_from(">i", code, start + 4)[0]
+        _need(pairs >= 0)
+        end = start + 8 + 8 * pairs
+    _need(end <= len(code))
+    return end
+
+
+class _Body:
+    """What the methods of one class file share while their code is read."""
+
+    def __init__(self, pool):
+        self.pool = pool
+        self.descriptors = set()
+        self.calls = {}
+        self.sites = 0
+
+    def descriptor(self, index):
+        """The method descriptor at `index` of the pool."""
+        text = _utf8(self.pool, index)
+        if text not in self.descriptors:
+            _need(is_method_descriptor(text))
+            self.descriptors.add(text)
+        return text
+
+    def call(self, start):
+        """The kind, owner, name and descriptor of a call by its opcode and index, and its length."""
+        if start not in self.calls:
+            _need(len(start) == 3)
+            kind, length, tags = _CALLS[start[0]]
+            place, pair = _entry(self.pool, int.from_bytes(start[1:], "big"), tags)
+            owner = _class_name(self.pool, place)
+            name, descriptor = _entry(self.pool, pair, (12,))
+            name = _utf8(self.pool, name)
+            _need(name)
+            self.calls[start] = (kind, owner, name, self.descriptor(descriptor)), length
+        return self.calls[start]
+
+    def code(self, code):
+        """The sites of the instructions of a method: each its place and its call."""
+        sites = []
+        at = 0
+        while at < len(code):
+            opcode = code[at]
+            if opcode in _CALLS:
+                call, length = self.call(code[at:at + 3])
+                sites.append((at, call))
+                at += length
+                _need(at <= len(code))
+            elif opcode in (_TABLE, _LOOKUP):
+                at = _after_switch(code, at)
+            else:
+                end = _PASSED.match(code, at).end()
+                _need(end > at)
+                at = end
+        self.sites += len(sites)
+        _need(self.sites <= CLASS_SITES)
+        return sites
+
+    def code_attribute(self, content):
+        """The sites of the content of a Code attribute."""
+        reader = _Reader(content)
+        reader.take(4)
+        length = reader.u4()
+        _need(1 <= length <= CODE)
+        sites = self.code(reader.take(length))
+        reader.take(8 * reader.u2())
+        self.attributes(reader)
+        _need(reader.at == len(content))
+        return sites
+
+    def attributes(self, reader):
+        """Passes over a count of attributes."""
+        for _ in range(reader.u2()):
+            _need(_utf8(self.pool, reader.u2()) != _FORBIDDEN)
+            reader.take(reader.u4())
+
+    def method_attributes(self, reader):
+        """The sites of a method, where its Code attribute is among its attributes."""
+        found = None
+        for _ in range(reader.u2()):
+            name = _utf8(self.pool, reader.u2())
+            _need(name != _FORBIDDEN)
+            content = reader.take(reader.u4())
+            if name == b"Code":
+                _need(found is None)
+                found = self.code_attribute(content)
+        return found or []
 
 
 def _read_class(data):
@@ -181,26 +300,28 @@ def _read_class(data):
     for _ in range(reader.u2()):
         _class_name(pool, reader.u2())
     _need(reader.u2() == 0)
+    body = _Body(pool)
     methods = []
-    descriptors = set()
+    seen = set()
     for _ in range(reader.u2()):
         reader.u2()
         method = _utf8(pool, reader.u2())
         _need(method)
-        descriptor = _utf8(pool, reader.u2())
-        if descriptor not in descriptors:
-            _need(is_method_descriptor(descriptor))
-            descriptors.add(descriptor)
-        methods.append((method, descriptor))
-        _pass_attributes(reader, pool)
-    _need(len(set(methods)) == len(methods))
-    _pass_attributes(reader, pool)
+        descriptor = body.descriptor(reader.u2())
+        _need((method, descriptor) not in seen)
+        seen.add((method, descriptor))
+        methods.append((method, descriptor, body.method_attributes(reader)))
+    body.attributes(reader)
     _need(reader.at == len(data))
     return name, methods
 
 
 def read_class(data):
-    """The name and the (name, descriptor) pairs of a plain class file, or None."""
+    """The name of a plain class file and its methods, or None.
+
+    A method is its name, descriptor and sites; a site is its place and its call, which is the kind and the
+    owner, name and descriptor of what is called.
+    """
     try:
         return _read_class(data)
     except _NotPlain:
@@ -258,62 +379,89 @@ def views(bundle):
         return None
     found = []
     known = {}
+    sites = 0
     for path, body in entries:
         if not path.endswith(b".class") or path.startswith(b"META-INF/versions/"):
             return None
         if body not in known:
-            known[body] = read_class(body)
-        if known[body] is None:
+            view = read_class(body)
+            known[body] = view, 0 if view is None else sum(len(method[2]) for method in view[1])
+        view, count = known[body]
+        sites += count
+        if view is None or sites > BUNDLE_SITES:
             return None
-        found.append(known[body])
+        found.append(view)
     return found
 
 
-def lines(found):
+class _Texts:
+    """The escaped texts of names and descriptors, each made once."""
+
+    def __init__(self):
+        self.known = {}
+
+    def part(self, part, extra):
+        """An escaped part."""
+        if (part, extra) not in self.known:
+            self.known[part, extra] = escape(part, extra)
+        return self.known[part, extra]
+
+    def type(self, name):
+        """The name of a type."""
+        return self.part(name, b"/")
+
+    def method(self, name, descriptor):
+        """The name and descriptor of a method."""
+        return self.part(name, b"") + self.part(descriptor, b"/();[")
+
+
+def list_lines(found):
     """The lines that `fcg list` prints for the views of a plain bundle, one after the other."""
-    known = {}
-
-    def text(part, extra):
-        """An escaped part; the long ones are kept, since they come again."""
-        if len(part) < 256:
-            return escape(part, extra)
-        if (part, extra) not in known:
-            known[part, extra] = escape(part, extra)
-        return known[part, extra]
-
+    texts = _Texts()
     count = 0
     for name, methods in found:
-        yield b"type " + text(name, b"/") + b"\n"
-        for method, descriptor in methods:
-            yield b"method " + text(method, b"") + text(descriptor, b"/();[") + b"\n"
+        yield b"type " + texts.type(name) + b"\n"
+        for method, descriptor, _ in methods:
+            yield b"method " + texts.method(method, descriptor) + b"\n"
         count += len(methods)
     yield b"types %d methods %d\n" % (len(found), count)
 
 
-def list_text(bundle):
-    """The text that `fcg list` prints for a plain bundle, or None where the bytes are none."""
-    found = views(bundle)
-    return None if found is None else b"".join(lines(found))
+def site_lines(found):
+    """The lines that `fcg sites` prints for the views of a plain bundle, one after the other."""
+    texts = _Texts()
+    count = 0
+    for name, methods in found:
+        for method, descriptor, sites in methods:
+            if sites:
+                front = b"site " + texts.type(name) + b"." + texts.method(method, descriptor)
+            for place, (kind, owner, called, kinds) in sites:
+                yield b"%s %d %s %s.%s\n" % (front, place, kind, texts.type(owner), texts.method(called, kinds))
+            count += len(sites)
+    yield b"sites %d\n" % count
 
 
-def answer(data):
-    """The exit status, standard output and standard error that `fcg list` owes to an input."""
+LINES = {"list": list_lines, "sites": site_lines}
+
+
+def answer(data, command="list"):
+    """The exit status, standard output and standard error that a command of fcg owes to an input."""
     if len(data) > LIMIT:
         return 3, b"", BODY_TOO_LONG
     if data[:4] == JAR:
         return 3, b"", JAR_FAULT
-    text = list_text(data)
-    if text is None:
+    found = views(data)
+    if found is None:
         return 3, b"", NOT_BUILT
-    return 0, text, b""
+    return 0, b"".join(LINES[command](found)), b""
 
 
 def main(words):
     """Answers for the bundle on standard input."""
-    if words:
-        print(__doc__ + "\nUse: plain.py < BUNDLE")
+    if len(words) > 1 or words and words[0] not in LINES:
+        print(__doc__ + "\nUse: plain.py [list | sites] < BUNDLE")
         return 0 if words == ["--help"] else 2
-    status, out, err = answer(sys.stdin.buffer.read())
+    status, out, err = answer(sys.stdin.buffer.read(), *words)
     sys.stdout.buffer.write(out)
     sys.stderr.buffer.write(err)
     return status

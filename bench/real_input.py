@@ -1,28 +1,34 @@
 #!/usr/bin/env python3
-"""Lists bundles of real class files and compares the text with two other readers.
+"""Reads bundles of real class files and compares the texts with two other readers.
 
-The class files come from every javac on the machine, for interfaces written here, and from the modules of
-every JDK on the machine; the plain ones among them are picked by plain.py. The text of ./fcg list is
-compared byte by byte with that of plain.py, and its types and methods with those that javap prints.
-Then ./fcg list is timed beside cat.
+The class files come from every javac on the machine, for sources written here, from the modules of every
+JDK on the machine, and from the jars below some folders; the plain ones among them are picked by plain.py.
+The texts of ./fcg list and ./fcg sites are compared byte by byte with those of plain.py; their types,
+methods and sites with those that javap prints. Then ./fcg is timed beside cat and javap.
 """
 
 import argparse
 import glob
+import hashlib
 import os
+import random
 import re
 import shutil
 import subprocess
 import sys
 import tempfile
+import time
 import zipfile
 
+import code_edges
 import measure
 import plain
 
 RELEASES = (8, 11, 17, 21, 25)
 GREATEST = 65
 WEIGHTY = 60000000
+SEED = 20240301
+JAR_FOLDERS = ("/usr/share", "/usr/lib", "/usr/local", "/opt", "~/.m2", "~/.gradle", "~/.ivy2", "~/.cache")
 
 SOURCES = {
     "simple/Empty.java": "package simple; public interface Empty { }",
@@ -90,6 +96,46 @@ public interface NotPlain { int K = 70000; default int d() { return K; } static 
     "rest/Field.java": "package rest; public interface Field { Object O = null; }",
     "rest/Number.java": "package rest; public @interface Number { int value() default 7; }",
     "rest/Native.java": "package rest; public abstract class Native { native void n(); abstract void a(); }",
+    "rest/Makes.java": "package rest; class Makes { Object o() { return new Object(); } }",
+    "rest/Reads.java": "package rest; class Reads { void o() { System.out.println(); } }",
+    "bodies/Calls.java": """package bodies;
+import java.util.*;
+abstract class Calls<T extends List<String> & Runnable> extends Thread implements Comparable<Calls<T>>, Bodies {
+    static { Math.abs(-1); }
+    Calls(String s) { super(s); setName(s.trim()); }
+    private void own() { own(); this.own(); Calls.of(3, 4L, 5f, 6d); super.toString(); Bodies.super.two(1L); }
+    static int of(int i, long j, float f, double d) { return Math.max(i, (int) (j + f + d)) + Bodies.one(new int[i][3]); }
+    public int compareTo(Calls<T> other) { return getName().compareTo(other.getName()); }
+    synchronized void all(T list, Object[] os, int[][] is, Iterator<? extends CharSequence> it) throws Exception {
+        list.get(0).length(); list.run(); os.clone(); is.clone(); is[0].clone(); os.hashCode(); os.getClass();
+        while (it.hasNext()) { it.next().length(); it.next().charAt(1); }
+        try { join(); } catch (InterruptedException | IllegalStateException e) { e.printStackTrace(); }
+        finally { synchronized (os) { os.notifyAll(); } }
+    }
+    abstract void none(); native void far();
+    String pick(String s, int i) {
+        switch (s) { case "a": return s.trim(); case "b": s.length(); case "Aa": case "BB": return s.intern(); default: }
+        switch (i) { case -3: s.length(); case -1: s.trim(); case 2: return s.intern(); default: }
+        switch (i) { case Integer.MIN_VALUE: s.length(); case 0: s.trim(); case Integer.MAX_VALUE: return s.concat(s); default: }
+        return i > 0 ? pick(s, i - 1) : pick(s.substring(i), -i);
+    }
+}""",
+    "bodies/Bodies.java": """package bodies;
+interface Bodies { static int one(int[][] a) { return a.length; } default long two(long a) { return a + hashCode(); } }""",
+    "bodies/Paddings.java": """package bodies;
+class Paddings {
+%s
+}""" % "\n".join("    static int p%d(int i, String s) { %s switch (i) { case 0: s.length(); case 1: return 7; default: "
+                "s.trim(); } switch (i) { case 5: s.length(); case 500: return s.length(); } return p%d(i, s); }"
+                % (number, "i++; s = s;" * (number // 2) + "i = 1;" * (number % 2), number) for number in range(8)),
+    "bodies/Wide.java": """package bodies;
+class Wide {
+    static int w(String s) { %s
+        v299 += 300; v298 += 1; v299 += v298; s.length(); s = s.trim(); int z = s.length(); z += 1000;
+        long j = z; float f = z; double d = z; String t = s; j++; f++; d++;
+        for (int i = 0; i < 3; i++) { t.length(); %s }
+        return v299 + w(t) + (int) (j + f + d) + 70000; }
+}""" % (" ".join("int v%d = %d;" % (number, number) for number in range(300)), "t.trim(); " * 7000),
     "Unnamed.java": "public interface Unnamed { Unnamed unnamed(Unnamed[] u); }",
 }
 NEWER = {
@@ -146,7 +192,7 @@ def compile_sources(home, folder):
             if done.returncode != 0:
                 text = done.stdout.decode("utf-8", "replace")
                 if "release version %d not supported" % release not in text:
-                    measure.fail("javac --release %d: %s" % (release, text))
+                    measure.fail("javac --release %d: %s" % (release, text[-2000:]))
                 break
             for path, body in tree(target):
                 entries.append((name.encode() + b"/" + path, body))
@@ -191,6 +237,38 @@ def module_classes(home, folder):
     return [], "no modules found"
 
 
+def jar_classes(folders):
+    """The (path, body) pairs of the class files in the jars below the folders, each body once."""
+    seen = set()
+    for number, jar in enumerate(jars(folders)):
+        try:
+            with zipfile.ZipFile(jar) as archive:
+                for name in archive.namelist():
+                    if name.endswith(".class"):
+                        body = archive.read(name)
+                        mark = hashlib.sha256(body).digest()
+                        if mark not in seen:
+                            seen.add(mark)
+                            yield b"jar%04d/%06d.class" % (number, len(seen)), body
+        except (zipfile.BadZipFile, OSError, RuntimeError, NotImplementedError, EOFError) as error:
+            print("  passed over: %s: %s" % (jar, error))
+
+
+def jars(folders):
+    """The paths of the jars below the folders, each file once."""
+    found = set()
+    for folder in folders:
+        for place, _, names in os.walk(os.path.expanduser(folder)):
+            found.update(os.path.realpath(os.path.join(place, name)) for name in names if name.endswith(".jar"))
+    return sorted(path for path in found if os.path.isfile(path))
+
+
+def random_classes(count=1000):
+    """The (path, body) pairs of class files of random code; javap prints all that are plain."""
+    chance = random.Random(SEED)
+    return [(b"random%04d.class" % number, code_edges.nearly(chance)) for number in range(count)]
+
+
 def unescape(text):
     """The bytes of an escaped name."""
     return re.sub(rb"%([0-9A-F]{2})", lambda found: bytes([int(found.group(1), 16)]), text)
@@ -214,117 +292,315 @@ def listed(text):
     return types
 
 
-HEAD = re.compile(r"(?:^| )(?:@?interface|class|enum) ([^ <]+)")
+METHOD = rb"([^. ]+)\.([^( ]+)(\([^ ]+)"
+ROW = re.compile(rb"site " + METHOD + rb" (\d+) (virtual|special|static|interface) " + METHOD)
+
+
+def site_rows(text):
+    """The sites of a text of ./fcg sites: type, method, descriptor, place, kind, and what is called."""
+    rows = []
+    for line in text.split(b"\n")[:-2]:
+        found = ROW.fullmatch(line)
+        if found is None:
+            measure.fail("a line of ./fcg sites was not understood: %r" % line)
+        rows.append(tuple(decode(unescape(part)) for part in found.groups()))
+    if not text.endswith(b"sites %d\n" % len(rows)):
+        measure.fail("the last line of ./fcg sites isn't that of %d sites" % len(rows))
+    return rows
+
+
+class NotUnderstood(Exception):
+    """What javap printed has another shape than is read here."""
+
+
+CALL = re.compile(r" +(\d+): invoke(\w+)\b(.*)")
+CALLED = re.compile(r" +#\d+(?:, +\d+)? +// (Interface)?Method (.*)")
+QUOTED = r'"(?:[^"\\]|\\.)*"|[^".:]+'
+TARGET = re.compile(r"(?:(%s)\.)?(%s):(\(.*)" % (QUOTED, QUOTED))
+KINDS = {"virtual": ("",), "special": ("", "Interface"), "static": ("", "Interface"), "interface": ("Interface",)}
+
+
+def unquoted(text):
+    """A name as javap prints it, without its quotes."""
+    if text is None or text[0] != '"':
+        return text
+    return re.sub(r"\\(.)", lambda found: {"n": "\n", "t": "\t"}.get(found.group(1), found.group(1)), text[1:-1])
+
+
+def printed_site(line):
+    """The place, kind, owner, name and descriptor in a line of javap, or None where it is no call.
+
+    The owner is None where javap leaves it out, since it is the class itself.
+    """
+    found = CALL.fullmatch(line)
+    if found is None:
+        return None
+    place, kind, rest = found.groups()
+    called = CALLED.fullmatch(rest)
+    target = called and TARGET.fullmatch(called.group(2))
+    if target is None or (called.group(1) or "") not in KINDS.get(kind, ()):
+        raise NotUnderstood("a call: " + line)
+    owner, name, descriptor = target.groups()
+    return place, kind, unquoted(owner), unquoted(name), descriptor
+
+
+REFUSED = re.compile(r" +\d+: (?:getstatic|putstatic|invokedynamic|new) +#.*")
+
+
+def is_field(line):
+    """Whether a member of a type in a text of javap is a field."""
+    return "(" not in line and not line.endswith(" {};")
 
 
 def printed(text):
-    """The types, each with its (method, descriptor) pairs, of a text of javap -s -p."""
+    """The types of a text of javap -c -s -p: each its first line, its methods, and why it isn't plain.
+
+    A method is its line, its descriptor and its sites. Why it isn't plain are lines of fields and of
+    instructions.
+    """
     types = []
     member = None
     for line in text.split("\n"):
         if line.startswith("Compiled from ") or line == "}" or not line:
             continue
         if not line.startswith(" "):
-            found = HEAD.search(line)
-            if found is None or not line.endswith("{"):
-                measure.fail("a line of javap was not understood: " + line)
-            types.append((found.group(1), []))
+            if not line.endswith("{"):
+                raise NotUnderstood("a line: " + line)
+            types.append((line, [], []))
         elif line.startswith("    descriptor: "):
             if member is None:
-                measure.fail("a descriptor of javap has no member: " + line)
-            types[-1][1].append((member, line[len("    descriptor: "):]))
+                raise NotUnderstood("a descriptor without a method: " + line)
+            types[-1][1].append((member, line[len("    descriptor: "):], []))
             member = None
-        elif line.startswith("  ") and line[2] != " ":
-            member = line.split("(")[0].split(" ")[-1]
+        elif line[2:3] != " ":
+            member = line
+            if is_field(line):
+                types[-1][2].append(line)
+        elif REFUSED.fullmatch(line):
+            types[-1][2].append(line)
+        else:
+            site = printed_site(line)
+            if site is not None:
+                types[-1][1][-1][2].append(site)
     return types
 
 
-def javap(home, folder, bodies, batch=400):
-    """What javap -s -p prints of class files: their types with (method, descriptor) pairs."""
-    types = []
-    for start in range(0, len(bodies), batch):
-        files = []
-        for index, body in enumerate(bodies[start:start + batch]):
-            files.append(measure.write(folder, "c%06d.class" % (start + index), body))
-        done = subprocess.run(
-            [os.path.join(home, "bin", "javap"), "-J-Dfile.encoding=UTF-8", "-J-Dstdout.encoding=UTF-8",
-             "-J-Dsun.stdout.encoding=UTF-8", "-s", "-p"] + files,
-            env=environment(), stdout=subprocess.PIPE, stderr=subprocess.PIPE, check=False)
-        if done.returncode != 0 or done.stderr:
-            measure.fail("javap: status %d: %s" % (done.returncode, done.stderr.decode("utf-8", "replace")[:2000]))
-        types += printed(done.stdout.decode("utf-8"))
+def javap_words(home, words):
+    """The words of a run of a JDK's javap."""
+    return [os.path.join(home, "bin", "javap"), "-J-Dfile.encoding=UTF-8", "-J-Dstdout.encoding=UTF-8",
+            "-J-Dsun.stdout.encoding=UTF-8"] + words
+
+
+def javap_files(home, files):
+    """The types that javap prints of class files; for those that it does not print why, as text."""
+    done = subprocess.run(javap_words(home, ["-c", "-s", "-p"]) + files, env=environment(),
+                          stdout=subprocess.PIPE, stderr=subprocess.PIPE, check=False)
+    text = done.stdout.decode("utf-8", "replace")
+    why = (done.stderr.decode("utf-8", "replace") or text)[:200].replace("\n", " ")
+    if done.returncode == 0 and not done.stderr:
+        try:
+            types = printed(text)
+            if len(types) == len(files):
+                return types
+        except NotUnderstood as error:
+            why = str(error)
+    if len(files) == 1:
+        return [why]
+    half = len(files) // 2
+    return javap_files(home, files[:half]) + javap_files(home, files[half:])
+
+
+def batches(folder, bodies, size=400):
+    """The paths of files of the bodies, some at a time; they are removed when the next ones are made."""
+    for start in range(0, len(bodies), size):
+        files = [measure.write(folder, "c%06d.class" % (start + index), body)
+                 for index, body in enumerate(bodies[start:start + size])]
+        yield files
         for path in files:
             os.remove(path)
-    return types
 
 
-def compare_plain(label, path, bundle):
-    """Compares the text of ./fcg list with that of plain.py; gives it."""
-    want = plain.answer(bundle)
-    got = measure.run_file(path)
+def compare_plain(label, path, bundle, command, alone):
+    """Compares the text of a command of ./fcg with that of plain.py; gives it."""
+    want = plain.answer(bundle, command)
+    got = want if alone else measure.run_file(path, measure.COMMANDS[command])
     if got == want:
-        print("  equal to plain.py: status %d, %d bytes out, %s"
-              % (got[0], len(got[1]), got[1][-60:].split(b"\n")[-2].decode() if got[1] else ""), flush=True)
+        print("  %s of %s: status %d, %d bytes out, %s"
+              % (command, "plain.py" if alone else "./fcg equal to plain.py", got[0], len(got[1]),
+                 got[1][-60:].split(b"\n")[-2].decode() if got[1] else ""), flush=True)
         return got[1]
     for index, (one, other) in enumerate(zip(got[1].split(b"\n"), want[1].split(b"\n"))):
         if one != other:
             print("  line %d: fcg %r, plain.py %r" % (index + 1, one, other))
             break
-    measure.fail("%s: fcg status %d, %d bytes, %r; plain.py status %d, %d bytes, %r"
-                 % (label, got[0], len(got[1]), got[2], want[0], len(want[1]), want[2]))
+    measure.fail("%s, %s: fcg status %d, %d bytes, %r; plain.py status %d, %d bytes, %r"
+                 % (label, command, got[0], len(got[1]), got[2], want[0], len(want[1]), want[2]))
 
 
-def compare_javap(label, home, folder, bodies, text):
-    """Compares the types and methods of a text of ./fcg list with those of javap."""
-    ours = listed(text)
-    theirs = javap(home, folder, bodies)
+def is_heading(line, name):
+    """Whether a line of javap begins a type of this name."""
+    return re.search("(?:^| )(?:@?interface|class|enum) %s[ <{]" % re.escape(name.replace("/", ".")), line) is not None
+
+
+def is_member(line, name, method):
+    """Whether a line of javap is a method of this name of the type `name`."""
+    if method == "<clinit>":
+        return line.endswith(" {};")
+    return " %s(" % (name.replace("/", ".") if method == "<init>" else method) in line
+
+
+def compare_type(label, ours, theirs):
+    """Compares a type and its methods with javap's; gives the sites of javap."""
+    name, members = ours
+    line, others, refused = theirs
+    if refused:
+        measure.fail("%s: %s isn't plain: %s" % (label, name, refused[0]))
+    if not is_heading(line, name):
+        measure.fail("%s: fcg lists the type %s, javap %s" % (label, name, line))
+    if len(members) != len(others):
+        measure.fail("%s: %s: fcg lists %d methods, javap %d" % (label, name, len(members), len(others)))
+    rows = []
+    for (method, descriptor), (shown, other, sites) in zip(members, others):
+        if descriptor != other or not is_member(shown, name, method):
+            measure.fail("%s: %s: fcg lists %s%s, javap %s with %s" % (label, name, method, descriptor, shown, other))
+        for place, kind, owner, called, kinds in sites:
+            rows.append((name, method, descriptor, place, kind, owner or name, called, kinds))
+    return rows
+
+
+def compare_javap(label, home, folder, bodies, list_text, sites_text):
+    """Compares the types, methods and sites of the texts of ./fcg with those of javap."""
+    ours = listed(list_text)
+    theirs = [kind for files in batches(folder, bodies) for kind in javap_files(home, files)]
     if len(ours) != len(theirs):
         measure.fail("%s: fcg lists %d types, javap %d" % (label, len(ours), len(theirs)))
-    methods = 0
-    for (name, members), (other, others) in zip(ours, theirs):
-        if name.replace("/", ".") != other:
-            measure.fail("%s: fcg lists the type %s, javap %s" % (label, name, other))
-        if members != others:
-            measure.fail("%s: methods of %s: fcg %r, javap %r" % (label, name, members, others))
-        methods += len(members)
-    print("  equal to javap -s -p: types %d methods %d" % (len(ours), methods), flush=True)
+    views = [plain.read_class(body) for body in bodies]
+    rows = site_rows(sites_text)
+    types = methods = sites = at = 0
+    for own, other, view in zip(ours, theirs, views):
+        end = at + sum(len(method[2]) for method in view[1])
+        if not isinstance(other, str):
+            want = compare_type(label, own, other)
+            for row, site in zip(rows[at:end], want):
+                if row != site:
+                    measure.fail("%s: a site of fcg: %r; of javap: %r" % (label, row, site))
+            if end - at != len(want):
+                measure.fail("%s: %s: fcg has %d sites, javap %d" % (label, own[0], end - at, len(want)))
+            types += 1
+            methods += len(own[1])
+            sites += end - at
+        at = end
+    if at != len(rows):
+        measure.fail("%s: fcg has %d sites, plain.py %d" % (label, len(rows), at))
+    causes = [other for other in theirs if isinstance(other, str)]
+    for cause in sorted(set(causes))[:5]:
+        print("  not printed by javap: " + cause)
+    if len(causes) * 100 > len(theirs):
+        measure.fail("%s: javap does not print %d of %d class files" % (label, len(causes), len(theirs)))
+    print("  equal to javap -c -s -p of %s: types %d methods %d sites %d; class files that it doesn't print: %d"
+          % (os.path.basename(home), types, methods, sites, len(causes)), flush=True)
 
 
-def compare_refused(label, entries, most):
-    """Compares ./fcg list and plain.py on bundles of one class file each that is not plain."""
+def compare_causes(label, home, folder, entries):
+    """Looks whether javap shows why each class file isn't plain: a field or an instruction."""
+    bodies = [body for _, body in entries if major(body) <= GREATEST]
+    types = [kind for files in batches(folder, bodies) for kind in javap_files(home, files)]
+    shown = 0
+    for body, kind in zip(bodies, types):
+        if not isinstance(kind, str) and not kind[2] and b"BootstrapMethods" not in body:
+            measure.fail("%s: it isn't seen why the class file of %s isn't plain" % (label, kind[0]))
+        shown += not isinstance(kind, str)
+    print("  of those that aren't plain, javap shows why %d aren't; %d it doesn't print or are newer"
+          % (shown, len(entries) - shown), flush=True)
+
+
+def compare_refused(label, entries, most, count):
+    """Compares ./fcg and plain.py on bundles of one class file each that is not plain."""
     step = max(1, len(entries) // most) if entries else 1
     picked = entries[::step][:most]
     for path, body in picked:
         bundle = plain.pack([(path, body)])
         want = plain.answer(bundle)
-        got = measure.run_bytes(bundle)
-        if got != want or want[0] != 3:
-            measure.fail("%s: %r alone: fcg %r, plain.py %r" % (label, path, got, want))
+        for words in measure.COMMANDS.values():
+            got = measure.run_bytes(bundle, words)
+            if got != want or want[0] != 3:
+                measure.fail("%s: %r alone: fcg %r, plain.py %r" % (label, path, got, want))
     print("  class files that are not plain: %d, of which %d alone in a bundle: refused by both"
-          % (len(entries), len(picked)), flush=True)
+          % (count, len(picked)), flush=True)
 
 
 def time_beside_cat(path):
-    """Times ./fcg list beside cat and prints the least of five each."""
-    ours, _ = measure.least(path, measure.LIST)
+    """Times the commands of ./fcg beside cat and prints the least of five each."""
     cats, _ = measure.least(path, measure.CAT)
-    print("  %d bytes: ./fcg list %.4f s, cat %.4f s, %.1f times (least of five)"
-          % (os.path.getsize(path), ours, cats, ours / cats), flush=True)
+    for command, words in measure.COMMANDS.items():
+        ours, _ = measure.least(path, words)
+        print("  %d bytes: ./fcg %s %.4f s, cat %.4f s, %.1f times (least of five)"
+              % (os.path.getsize(path), command, ours, cats, ours / cats), flush=True)
 
 
-def group(label, home, folder, entries, refused):
-    """Compares and times one group of class files; gives its plain ones."""
-    good = [entry for entry in entries if plain.read_class(entry[1]) is not None]
-    bad = [entry for entry in entries if plain.read_class(entry[1]) is None]
-    bundle = plain.pack(good)
-    print("%s: %d class files, of which %d are plain, in a bundle of %d bytes"
-          % (label, len(entries), len(good), len(bundle)), flush=True)
-    path = measure.write(folder, "bundle", bundle)
-    text = compare_plain(label, path, bundle)
-    if good:
-        compare_javap(label, home, folder, [body for _, body in good], text)
-    compare_refused(label, bad, refused)
-    time_beside_cat(path)
+def time_javap(home, folder, bodies):
+    """Times javap over the class files once and prints it."""
+    took = 0.0
+    for files in batches(folder, bodies):
+        begin = time.perf_counter()
+        subprocess.run(javap_words(home, ["-c", "-p"]) + files, env=environment(), stdout=subprocess.DEVNULL,
+                       stderr=subprocess.DEVNULL, check=False)
+        took += time.perf_counter() - begin
+    print("  javap -c -p of %s over the same %d class files: %.2f s (one run, 400 class files at a time)"
+          % (os.path.basename(home), len(bodies), took), flush=True)
+
+
+def pick(entries):
+    """The plain ones of the entries, every tenth of the others, and how many these are."""
+    good = []
+    bad = []
+    count = 0
+    for path, body in entries:
+        if plain.read_class(body) is not None:
+            good.append((path, body))
+        else:
+            if count % 10 == 0:
+                bad.append((path, body))
+            count += 1
+    return good, bad, count
+
+
+def pieces(entries, size):
+    """The entries in order, parted so that no bundle has more than `size` bytes but by one entry."""
+    part = []
+    total = 0
+    for path, body in entries:
+        if part and total + len(path) + len(body) > size:
+            yield part
+            part = []
+            total = 0
+        part.append((path, body))
+        total += 6 + len(path) + len(body)
+    yield part
+
+
+def group(label, homes, folder, entries, options, causes=True):
+    """Compares and times one group of class files with javap of each home; gives its plain ones.
+
+    With `causes` javap must show why the others are not plain.
+    """
+    good, bad, count = pick(entries)
+    print("%s: %d class files, of which %d are plain" % (label, len(good) + count, len(good)), flush=True)
+    for part in pieces(good, options.size):
+        bundle = plain.pack(part)
+        print("  %d class files in a bundle of %d bytes" % (len(part), len(bundle)), flush=True)
+        path = measure.write(folder, "bundle", bundle)
+        texts = [compare_plain(label, path, bundle, command, options.alone) for command in measure.COMMANDS]
+        bodies = [body for _, body in part]
+        for home in homes:
+            compare_javap(label, home, folder, bodies, *texts)
+        if not options.alone:
+            time_beside_cat(path)
+            time_javap(homes[-1], folder, bodies)
+    if causes:
+        compare_causes(label, homes[0], folder, bad)
+    if not options.alone:
+        compare_refused(label, bad, options.refused, count)
     return good
 
 
@@ -347,42 +623,56 @@ def major(body):
     return int.from_bytes(body[6:8], "big")
 
 
-def main():
-    """Runs every group."""
+def words():
+    """The options of the script."""
     parser = argparse.ArgumentParser(description=__doc__, formatter_class=argparse.RawDescriptionHelpFormatter)
     parser.add_argument("--refused", type=int, default=100,
                         help="how many class files of a group that are not plain are tried alone (100)")
     parser.add_argument("--size", type=int, default=WEIGHTY, help="bytes of the weighty bundle (60000000)")
-    options = parser.parse_args()
+    parser.add_argument("--jars", nargs="*", default=JAR_FOLDERS, metavar="FOLDER",
+                        help="the folders whose jars are read (%s); those that aren't there are passed over"
+                             % " ".join(JAR_FOLDERS))
+    parser.add_argument("--alone", action="store_true", help="compare plain.py itself with javap, without ./fcg")
+    return parser.parse_args()
+
+
+def main():
+    """Runs every group."""
+    options = words()
     homes = jdks()
     if not homes:
         print("no JDK found")
         return 1
-    measure.ready()
     everything = {}
     with tempfile.TemporaryDirectory() as folder:
-        empty = measure.write(folder, "empty", plain.pack([]))
-        print("start of a process, a bundle without entries:")
-        time_beside_cat(empty)
+        if not options.alone:
+            measure.ready()
+            print("start of a process, a bundle without entries:")
+            time_beside_cat(measure.write(folder, "empty", plain.pack([])))
         for number, home in enumerate(homes):
             name = os.path.basename(home)
             made = compile_sources(home, os.path.join(folder, "javac%d" % number))
-            for entry in group("javac of " + name, home, folder, made, options.refused):
+            for entry in group("javac of " + name, [home], folder, made, options):
                 everything[b"javac%d/" % number + entry[0]] = entry[1]
             classes, how = module_classes(home, folder)
-            for entry in group("modules of %s (%s)" % (name, how), home, folder, classes, options.refused):
+            for entry in group("modules of %s (%s)" % (name, how), [home], folder, classes, options):
                 everything[b"jdk%d/" % number + entry[0]] = entry[1]
             newer = [(path, body[:6] + b"\x00\x41" + body[8:]) for path, body in classes if major(body) > GREATEST]
             if newer:
                 for entry in group("modules of %s (%s), their major version written as %d" % (name, how, GREATEST),
-                                   home, folder, newer, options.refused):
+                                   [home], folder, newer, options):
                     everything[b"jdk%d/" % number + entry[0]] = entry[1]
+        group("random code", homes[:1], folder, random_classes(), options, causes=False)
+        for entry in group("jars", homes, folder, jar_classes(options.jars), options):
+            everything[entry[0]] = entry[1]
         entries = repeat(sorted(everything.items()), options.size)
         bundle = plain.pack(entries)
         print("all plain ones, repeated: %d class files, a bundle of %d bytes" % (len(entries), len(bundle)))
         path = measure.write(folder, "bundle", bundle)
-        compare_plain("all, repeated", path, bundle)
-        time_beside_cat(path)
+        for command in measure.COMMANDS:
+            compare_plain("all, repeated", path, bundle, command, options.alone)
+        if not options.alone:
+            time_beside_cat(path)
     print("no difference")
     return 0
 

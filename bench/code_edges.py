@@ -1,0 +1,333 @@
+"""Edges and mutations of Code attributes, for differential.py.
+
+Each is a class file, most of them of one method. All that is random comes from the source of chance that is
+given.
+"""
+
+import struct
+
+from hostile import Pool, attribute, attributes, class_file, code_content, u2, u4
+
+RETURN = b"\xb1"
+BAD_OPCODE = b"\xca"
+SITES = (182, 183, 184, 185)
+REFUSED = (178, 179, 186, 187)
+DESCRIPTORS = [b"", b"I", b"(", b"()", b"V", b"()VV", b"(V)V", b"([V)V", b"(L;)V", b"(La)V", b"(La;)Lb;", b"()[I", b"([)V",
+               b"(" + b"I" * 255 + b")V", b"(" + b"I" * 256 + b")V", b"(I" + b"J" * 127 + b")V", b"(" + b"D" * 128 + b")V",
+               b"(" + b"[J" * 255 + b")V", b"(" + b"[" * 255 + b"I)V", b"(" + b"[" * 256 + b"I)V", b"()" + b"[" * 256 + b"J"]
+
+
+class Kit:
+    """A pool with an entry of every kind, and what is needed for a class with a method m."""
+
+    def __init__(self):
+        pool = self.pool = Pool()
+        self.this = pool.named(b"p/A")
+        self.name = pool.utf8(b"m")
+        self.kind = pool.utf8(b"()V")
+        self.code = pool.utf8(b"Code")
+        self.note = pool.utf8(b"Note")
+        self.bootstrap = pool.utf8(b"BootstrapMethods")
+        owner = pool.named(b"[Lo/W;")
+        pair = pool.pair(b"<go>", b"(IJ[La/b;)V")
+        self.method = pool.entry(10, owner, pair)
+        self.face = pool.entry(11, owner, pair)
+        self.field = pool.entry(9, owner, pair)
+        pool.raw(b"\x03abcd")
+        pool.raw(b"\x04abcd")
+        pool.raw(b"\x05abcdefgh", 1)
+        pool.raw(b"\x06abcdefgh", 1)
+        pool.entry(8, self.note)
+        pool.raw(b"\x0f\x06" + u2(self.method))
+        pool.entry(16, self.kind)
+        pool.entry(17, 0, pair)
+        pool.entry(18, 0, pair)
+        pool.entry(19, self.note)
+        pool.entry(20, self.note)
+        empty = pool.utf8(b"")
+        nowhere = pool.class_entry(empty)
+        for tag in (10, 11):
+            pool.entry(tag, nowhere, pair)
+            pool.entry(tag, owner, pool.entry(12, empty, self.kind))
+            pool.entry(tag, nowhere, pool.entry(12, empty, empty))
+            pool.entry(tag, owner, pool.entry(12, self.name, empty))
+            pool.entry(tag, owner, pool.entry(12, self.name, self.note))
+            pool.entry(tag, self.this, pool.entry(12, self.name, self.kind))
+
+    def body(self, *rows, more=b"\0\0"):
+        """The class file of a method with these attributes."""
+        return class_file(self.pool, self.this, [(self.name, self.kind, attributes(*rows))], attributes=more)
+
+    def coded(self, code, **how):
+        """The class file of a method with a Code attribute."""
+        return self.body(attribute(self.code, code_content(code, **how)))
+
+    def everything(self):
+        """Code of instructions of each length, of each site, and of switches at each padding."""
+        called = u2(self.method)
+        parts = [b"\x00\x10\x0a\x11\x0a\x0a\x12\x01\xa9\x05\x84\x01\xff\xc4\x15\x01\x02\xc4\x84\x01\x02\x03\x04",
+                 b"\xb6" + called, b"\xb7" + called, b"\xb8" + called, b"\xb7" + u2(self.face), b"\xb8" + u2(self.face),
+                 b"\xb9" + u2(self.face) + b"\x01\x00", b"\xb4\x00\x00", b"\xc5\0\0\2", b"\xc8\0\0\0\0", b"\xbc\x0a"]
+        code = b"".join(parts)
+        for number in range(4):
+            for make in (lambda at: table(at, -1, 1), lambda at: lookup(at, 2)):
+                code += b"\x00" * ((number - len(code)) % 4)
+                code += make(len(code))
+        return code + b"\xb6" + called + RETURN
+
+
+def padding(at, fill=b"\0"):
+    """The bytes between an opcode at `at` and the next place that is a multiple of 4."""
+    return fill * (3 - at % 4)
+
+
+def table(at, low, high, fill=b"\0", rows=None):
+    """A tableswitch at `at` of a code; `rows` offsets where these aren't as many as the bounds say."""
+    count = high - low + 1 if rows is None else rows
+    return b"\xaa" + padding(at, fill) + u4(9) + struct.pack(">ii", low, high) + b"\xca\xcb\xcc\xcd" * count
+
+
+def lookup(at, pairs, fill=b"\0", rows=None):
+    """A lookupswitch at `at` of a code; `rows` pairs where these aren't as many as it says."""
+    count = pairs if rows is None else rows
+    return b"\xab" + padding(at, fill) + u4(9) + struct.pack(">i", pairs) + b"\xca\xcb\xcc\xcd\xce\xcf\xd0\xd1" * count
+
+
+def opcode_edges(kit):
+    """Every opcode before several numbers of bytes that are no opcode, and alone at the end of the code."""
+    for opcode in range(256):
+        yield kit.coded(bytes([opcode]))
+        indexes = [b""]
+        if opcode in SITES or opcode in REFUSED:
+            indexes = [b"", u2(kit.method), u2(kit.face), u2(kit.field), u2(kit.this)]
+        for index in indexes:
+            for count in range(7):
+                yield kit.coded(bytes([opcode]) + index + BAD_OPCODE * count + RETURN)
+            yield kit.coded(bytes([opcode]) + index)
+            yield kit.coded(b"\x00" + bytes([opcode]) + index + b"\x00\x00")
+
+
+def wide_edges(kit):
+    """Every opcode after a 196."""
+    for opcode in range(256):
+        for count in (0, 2, 4) if opcode not in (0x15, 0x19, 0x36, 0x3A, 0xA9, 0x84) else range(6):
+            yield kit.coded(b"\xc4" + bytes([opcode]) + BAD_OPCODE * count + RETURN)
+    for code in (b"\xc4", b"\xc4\x15", b"\xc4\x15\0", b"\xc4\x15\0\0", b"\xc4\x84", b"\xc4\x84\0\0\0", b"\xc4\x84\0\0\0\0",
+                 b"\xc4\xc4\x15\0\0", b"\x10\xc4\x15\x01", b"\x10\xc4\xb1"):
+        yield kit.coded(code)
+
+
+def switch_edges(kit):
+    """Switches at every padding, of good and bad bounds, cut at every length."""
+    least, most = -0x80000000, 0x7FFFFFFF
+    bounds = [(0, 0), (0, 1), (-1, 1), (1, 0), (0, -1), (-1, -1), (least, least), (most, most), (most, least),
+              (least, least + 2), (most - 2, most), (-2, 3)]
+    for at in range(8):
+        front = b"\x00" * at
+        for fill in (b"\0", b"\xff", BAD_OPCODE):
+            yield kit.coded(front + table(at, -1, 2, fill) + RETURN)
+            yield kit.coded(front + lookup(at, 3, fill) + RETURN)
+        for low, high in bounds:
+            yield kit.coded(front + table(at, low, high) + RETURN)
+            yield kit.coded(front + table(at, low, high))
+        for low, high in ((least, most), (0, most), (least, -1), (least, 0), (-1, most), (0, 0x40000000), (0, 0x3FFFFFFF)):
+            yield kit.coded(front + table(at, low, high, rows=0))
+            yield kit.coded(front + table(at, low, high, rows=1) + RETURN)
+        for pairs in (-1, least, most, 0x20000000, 0x1FFFFFFF, 0x10000000, -0x20000000):
+            yield kit.coded(front + lookup(at, pairs, rows=0))
+            yield kit.coded(front + lookup(at, pairs, rows=1) + RETURN)
+        for pairs in (0, 1, 2):
+            yield kit.coded(front + lookup(at, pairs))
+        for made in (table(at, 5, 6), lookup(at, 2), table(at, 6, 5), lookup(at, -1, rows=1)):
+            for length in range(1, len(made)):
+                yield kit.coded(front + made[:length])
+        for rows in (1, 3):
+            yield kit.coded(front + table(at, 5, 6, rows=rows))
+            yield kit.coded(front + lookup(at, 2, rows=rows))
+    for opcode in (0xAA, 0xAB):
+        for at in range(4):
+            yield kit.coded(b"\x00" * at + bytes([opcode]) + b"\x00" * 30)
+
+
+def length_edges(kit):
+    """Codes and contents cut at every length, with and without their sizes changed."""
+    code = kit.everything()
+    yield kit.coded(code)
+    for length in range(1, len(code)):
+        yield kit.coded(code[:length])
+    for length in (0, 1, len(code) - 1, len(code) + 1, len(code) + 2, len(code) + 4, 65536, 0x80000000, 0xFFFFFFFF, 0x01000001):
+        yield kit.coded(code, length=length)
+        yield kit.coded(code, length=length, rows=b"x" * 8)
+    yield kit.coded(b"")
+    for length in (65534, 65535, 65536, 70000):
+        yield kit.coded(b"\x00" * length)
+        yield kit.coded(b"\x00" * (length - 3) + b"\xb6" + u2(kit.method))
+        yield kit.coded(b"\x00" * (length - 2) + b"\xb6" + u2(kit.method))
+    content = code_content(b"\xb8" + u2(kit.method) + RETURN, rows=b"r" * 16, inner=attributes(attribute(kit.note, b"xyz")))
+    for length in range(len(content)):
+        yield kit.body(attribute(kit.code, content[:length]))
+        yield kit.body(attribute(kit.code, content, length=length))
+    for more in (b"\0", b"\0\0", b"\0" * 8):
+        yield kit.body(attribute(kit.code, content + more))
+    for length in (len(content) + 1, len(content) + 2, len(content) + 3, 0xFFFFFFFF, 0x80000000):
+        yield kit.body(attribute(kit.code, content, length=length))
+
+
+def reference_edges(kit):
+    """Each instruction of a site, and those that are refused, with each index of the pool."""
+    count = len(kit.pool.parts)
+    for opcode in SITES + (178, 180, 187, 189):
+        tail = b"\x01\x00" if opcode == 185 else b""
+        for index in list(range(count + 3)) + [0xFFFF, 0x0100 + kit.method]:
+            yield kit.coded(bytes([opcode]) + u2(index) + tail + RETURN)
+    for tail in (b"\0\0", b"\xff\xff", b"\xca\xca"):
+        yield kit.coded(b"\xb9" + u2(kit.face) + tail)
+    yield kit.coded(b"\xba" + u2(kit.method) + b"\0\0" + RETURN)
+
+
+def descriptor_edges():
+    """References of other descriptors, owners and names, called and not called."""
+    rows = [(b"o/W", b"go", descriptor) for descriptor in DESCRIPTORS]
+    rows += [(b"", b"go", b"()V"), (b"o", b"", b"()V"), (b"", b"", b"x"), (b"o.W;[/(%", b"a.b;[/(%", b"(La.b[/(%;)V"),
+             (b"\xc3\xa9\xc0\x80", b"\xed\xa0\x81\xed\xb0\x80", b"(L\xe2\x82\xac;)V"), (b"o" * 65535, b"n" * 65535, b"()V"),
+             (b"[I", b"clone", b"()Ljava/lang/Object;"), (b"p/A", b"m", b"()V")]
+    for owner, name, descriptor in rows:
+        for opcode in SITES:
+            kit = Kit()
+            called = kit.pool.called(owner, name, descriptor, 11 if opcode == 185 else 10)
+            code = bytes([opcode]) + u2(called) + (b"\1\0" if opcode == 185 else b"")
+            yield kit.coded(code + RETURN)
+            if opcode == 182:
+                yield kit.coded(RETURN)
+                yield kit.coded(b"\xb8" + u2(kit.method) + RETURN + code + code)
+
+
+def attribute_edges(kit):
+    """Attributes named Code and BootstrapMethods at each level, two of them, and inner attributes."""
+    good = attribute(kit.code, code_content(b"\xb8" + u2(kit.method) + RETURN))
+    empty = attribute(kit.code, b"")
+    note = attribute(kit.note, b"abc")
+    boot = attribute(kit.bootstrap, b"\0\0")
+    for rows in ((good, good), (good, note, good), (note, good), (note, good, note), (good, empty), (empty,), (empty, good),
+                 (boot,), (good, boot), (boot, good), (good, boot[:2] + u4(9)), (good, good[:2] + u4(0xFFFFFFFF)),
+                 (good,) * 3, (note,) * 300 + (good,)):
+        yield kit.body(*rows)
+    for rows in ((good,), (empty,), (good, good), (boot,), (note, boot), (attribute(kit.code, b"garbage"),), (note, empty, note)):
+        yield kit.body(good, more=attributes(*rows))
+        yield kit.body(more=attributes(*rows))
+        yield kit.coded(RETURN, inner=attributes(*rows))
+        yield kit.coded(b"\xb8" + u2(kit.method), inner=attributes(*rows), rows=b"12345678")
+    nested = attributes(attribute(kit.code, code_content(b"\xb8" + u2(kit.method), inner=attributes(boot))))
+    yield kit.coded(RETURN, inner=nested)
+    for index in list(range(len(kit.pool.parts) + 2)) + [0xFFFF]:
+        yield kit.coded(RETURN, inner=attributes(attribute(index, b"")))
+        yield kit.coded(RETURN, inner=attributes(note, attribute(index, b"xy")))
+    for count, row in ((1, note), (2, note + note), (2, note), (3, note + note), (0, note), (0xFFFF, note)):
+        yield kit.coded(RETURN, inner=u2(count) + row)
+    for length in (2, 3, 4, 5, 9, 15, 1000, 0x80000000, 0xFFFFFFFD, 0xFFFFFFFF, 0x01000003):
+        inner = attributes(attribute(kit.note, b"abc", length))
+        yield kit.coded(RETURN, inner=inner)
+        yield kit.body(attribute(kit.code, code_content(RETURN, inner=inner)), note, note)
+        after = attributes(attribute(kit.note, b"y" * 1000))
+        yield kit.body(attribute(kit.code, code_content(RETURN, inner=inner)), more=after)
+    for count in (0, 1, 2, 255, 256, 8000, 65535):
+        yield kit.coded(RETURN, rows=b"\xff" * 8 * count)
+    plain_rows = code_content(RETURN)[:-4]
+    for count, size in ((1, 0), (1, 2), (1, 7), (1, 8), (1, 9), (2, 10), (65535, 80)):
+        yield kit.body(attribute(kit.code, plain_rows + u2(count) + bytes(size)))
+        yield kit.body(attribute(kit.code, plain_rows + u2(count) + bytes(size + 2)))
+
+
+def class_edges(kit):
+    """Several methods and their places, and codes on methods of all flags."""
+    pool = kit.pool
+    names = [pool.utf8(text) for text in (b"a", b"<init>", b"\xc3\xa9.", b"<clinit>", b"zz")]
+    code = attributes(attribute(kit.code, code_content(kit.everything())))
+    short = attributes(attribute(kit.code, code_content(b"\0\xb8" + u2(kit.method) + b"\xb6" + u2(kit.method))))
+    methods = [(names[0], kit.kind, code), (names[1], kit.kind, b"\0\0"), (names[2], kit.kind, short), (names[3], kit.kind, short)]
+    yield class_file(pool, kit.this, methods)
+    yield class_file(pool, kit.this, methods[::-1])
+    yield class_file(pool, kit.this, methods + [(names[4], kit.kind, attributes(attribute(kit.code, code_content(b"\xba"))))])
+    yield class_file(pool, kit.this, methods + methods[:1])
+    good = class_file(pool, kit.this, methods)
+    for flags in (b"\x04\x01", b"\x01\x00", b"\x05\x00", b"\xff\xff"):
+        yield good.replace(b"\0\x01" + u2(names[0]) + u2(kit.kind), flags + u2(names[0]) + u2(kit.kind), 1)
+    for flags in (b"\x00\x20", b"\x80\x00"):
+        yield good.replace(b"\x06\x01" + u2(kit.this), flags + u2(kit.this), 1)
+    for number, opcode in enumerate(REFUSED):
+        for place in (0, 1, 5):
+            body = b"\x00" * place + bytes([opcode]) + u2((kit.field, kit.field, 0, kit.this)[number]) + b"\0\0" + RETURN
+            yield kit.coded(body)
+        yield kit.coded(b"\x10" + bytes([opcode]) + RETURN)
+        yield kit.coded(b"\x11" + bytes([opcode]) * 2 + RETURN)
+        yield kit.coded(table(0, 0, 0)[:-4] + bytes([opcode]) * 4 + RETURN)
+
+
+def edges():
+    """The class files of all edges."""
+    kit = Kit()
+    for make in (opcode_edges, wide_edges, switch_edges, length_edges, reference_edges, attribute_edges):
+        yield from make(kit)
+    yield from class_edges(Kit())
+    yield from descriptor_edges()
+
+
+LENGTHS = [1] * 6 + [2] * 2 + [3] * 3
+BY_LENGTH = {1: (0, 4, 42, 87, 172, 177, 190), 2: (16, 18, 21, 58, 188), 3: (17, 19, 132, 153, 167, 180, 189, 192)}
+
+
+def fixed(chance):
+    """A random instruction of a fixed length that is no site."""
+    length = chance.choice(LENGTHS)
+    opcode = chance.choice(BY_LENGTH[length])
+    # javap prints no newarray of an unknown kind
+    rest = [10] if opcode == 188 else [chance.randrange(256) for _ in range(length - 1)]
+    return bytes([opcode]) + bytes(rest)
+
+
+def random_code(kit, chance):
+    """Random instructions, most of them good, some of them sites."""
+    code = b""
+    for _ in range(chance.randrange(1, 30)):
+        what = chance.random()
+        if what < 0.45:
+            code += fixed(chance)
+        elif what < 0.8:
+            opcode = chance.choice(SITES)
+            index = kit.face if opcode == 185 or opcode > 182 and chance.random() < 0.3 else kit.method
+            code += bytes([opcode]) + u2(index) + (b"\x01\x00" if opcode == 185 else b"")
+        elif what < 0.88:
+            low = chance.randrange(-3, 3)
+            code += table(len(code), low, low + chance.randrange(4))
+        elif what < 0.96:
+            code += lookup(len(code), chance.randrange(4))
+        elif what < 0.98:
+            code += chance.choice((b"\xc4\x15ab", b"\xc4\x84abcd", b"\xc4\xa9ab"))
+        else:
+            code += chance.choice((b"\xc8abcd", b"\xc5abc", b"\xc9abcd"))
+        if chance.random() < 0.004:
+            code += bytes([chance.randrange(256)])
+    return code
+
+
+def nearly(chance):
+    """A random class file with bodies that is often plain, and else only just not."""
+    kit = Kit()
+    methods = []
+    for number in range(chance.randrange(1, 4)):
+        rows = [attribute(kit.note, bytes(chance.randrange(4))) for _ in range(chance.choice((0, 0, 1)))]
+        if chance.random() < 0.85:
+            inner = [attribute(chance.choice((kit.note, kit.code)), b"ab") for _ in range(chance.choice((0, 0, 1, 2)))]
+            content = code_content(random_code(kit, chance), bytes(8 * chance.choice((0, 0, 1, 3))), attributes(*inner))
+            if chance.random() < 0.03:
+                content = content[:chance.randrange(len(content))]
+            rows.insert(chance.randrange(len(rows) + 1), attribute(kit.code, content))
+        methods.append((kit.pool.utf8(b"m%d" % number), kit.kind, attributes(*rows)))
+    return class_file(kit.pool, kit.this, methods)
+
+
+def dense():
+    """A class file with a bit of everything in its code, for mutations."""
+    kit = Kit()
+    content = code_content(kit.everything(), b"12345678", attributes(attribute(kit.note, b"in")))
+    return kit.body(attribute(kit.note, b""), attribute(kit.code, content))

@@ -1,9 +1,9 @@
 -- The class file: what is read is spelled so, and what is spelled so is read. So it has one view, or one first fault.
-use Rattle.std.proofs.Common.{◌≡◌, ℕ, zero, suc, ◌+◌, ◌^◌, ◌≤◌, ◌<◌, true, eqb, leb, ◌&&◌, List, [], ◌∷◌, ◌++◌, length, Some, refl, sym, ap, subst, ◌∙◌, arith}
+use Rattle.std.proofs.Common.{◌≡◌, ℕ, zero, suc, ◌+◌, ◌^◌, ◌≤◌, ◌<◌, Bool, true, false, cond, eqb, leb, ltb, ◌&&◌, List, [], ◌∷◌, ◌++◌, length, Option, Some, None, refl, sym, ap, subst, ◌∙◌, arith}
 use Rattle.std.specs.Prelude.{Result, Ok, Err, IfOk}
 use Rattle.std.specs.List.{flat_map}
 use Rattle.std.proofs.lemmas.List.{length-map}
-use Rattle.std.proofs.lemmas.Bool.{eqb-true, leb-true, and_parts}
+use Rattle.std.proofs.lemmas.Bool.{eqb-true, leb-true, ltb-true, ltb-false, lt-ltb, le-ltb, and_parts}
 use Rattle.std.proofs.lemmas.Bool.Decides.{nat_tests}
 use Rattle.fcg_grammar.specs.declared.error.ReadError.{ReadError}
 use Rattle.fcg_grammar.specs.Reading.{unless_broken, Gives}
@@ -16,11 +16,11 @@ use Rattle.fcg_views.specs.declared.fault.ClassFault.{ClassFault}
 use Rattle.fcg_views.specs.declared.fault.ClassRule.TheVariants.{Magic}
 use Rattle.fcg_views.specs.ClassFile.{Constant, Named, constant, slots, ClassFile, spelling}
 use Rattle.fcg_views.specs.Constants.{constant_at}
-use Rattle.fcg_views.specs.Reads.{IsViewOf, Reads, Verdict, IsRead, IsBroken}
+use Rattle.fcg_views.specs.Reads.{IsViewOf, IsShown, Reads, Verdict, IsRead, IsBroken}
 use Rattle.fcg_views.specs.Breaks.Fault.{fault, in_pool}
 use Rattle.fcg_views.specs.Breaks.Number.{u2_at, u4_at}
 use Rattle.fcg_views.specs.Breaks.Pool.{Entries, pool_at}
-use Rattle.fcg_views.specs.Breaks.Class.{header_kept, body_at, class_of}
+use Rattle.fcg_views.specs.Breaks.Class.{header_kept, body_at, shown, class_of}
 use Rattle.fcg_laws.proofs.Places.{u2_found, u2_only, u4_found, u4_only}
 use Rattle.fcg_laws.specs.Tables.{Holds}
 use Rattle.fcg_laws.proofs.WordLaws.{methods_differ, methods_distinct}
@@ -69,64 +69,79 @@ in_ok : {A : Type 0} (r : Result A PoolFault) (x : A) → in_pool r ≡ Ok x →
 in_ok (Ok y) x e = rw (ok_is y x e) refl
 in_ok (Err f) x e = absurd cc
 
-assembled : (bytes : List ℕ) (pool : Entries) (fits : IsBytes pool.bytes) (after : ℕ) (v : View) → FoundHeader bytes → (p : FoundPool bytes 8 pool after) → FoundBody pool fits p.constants p.holds after v → Reads bytes v
+assembled : (bytes : List ℕ) (pool : Entries) (fits : IsBytes pool.bytes) (after : ℕ) (v : View) → FoundHeader bytes → (p : FoundPool bytes 8 pool after) → FoundBody pool fits p.constants p.holds after v → (c : ClassFile) × (bytes ≡ spelling c) × IsViewOf c v
 assembled bytes pool fits after v header p found =
     let table : List Constant = p.constants in
     let body = found.body in
     let some = some_constant table found.this (Named 7 body.name.1.0) body.name.1.1 in
     let long : length pool.slots ≡ length (slots table) = sym (length-map pool.slots _) ∙ ap length p.holds in
     let count : p.count ≡ 1 + length (slots table) = omega (arith, p.many, long) in
-    let rest = subst (λ (x : List ℕ). Stands x after (body_text found.flags found.this found.super found.interfaces found.methods found.attributes) (length x)) p.bytes_are found.stands in
-    let pool_stands = subst (λ (n : ℕ). Stands bytes 8 (u2 n ++ flat_map constant table) after) count p.stands in
-    record {
-      file = record { minor = header.minor; major = header.major; pool = table; flags = found.flags; this = found.this; super = found.super; interfaces = found.interfaces; methods = found.methods; attributes = found.attributes };
-      spelled = whole_is bytes _ (Stands-then header.stands (Stands-then pool_stands rest));
-      view = record {
+    let rest = subst (λ (x : List ℕ). Stands x after (body_text found.flags found.this found.super found.interfaces found.fields found.methods found.attributes) (length x)) p.bytes_are found.stands in
+    let pool_stands = subst (λ (n : ℕ). Stands bytes 8 (u2 n ++ flat_map constant table) after) count p.stands in (
+      record { minor = header.minor; major = header.major; pool = table; flags = found.flags; this = found.this; super = found.super; interfaces = found.interfaces; fields = found.fields; methods = found.methods; attributes = found.attributes },
+      whole_is bytes _ (Stands-then header.stands (Stands-then pool_stands rest)),
+      record {
         minor = header.few;
         from = header.from;
         to = header.to;
         pool = record { few = omega (arith, count, p.few); fit = p.fit; named = p.named };
-        type = body.type;
+        flags_few = body.flags_few;
         flags = body.flags_are;
         name = body.name;
         super = body.super_is;
         few_interfaces = body.few_interfaces;
         interfaces = body.interfaces_are;
-        fields = body.fields;
+        few_fields = body.few_fields;
+        fields = body.fields_are;
         few_methods = body.few_methods;
         methods = body.methods_are;
         distinct = methods_differ v.methods body.distinct;
         few_sites = body.few_sites;
         attributes = body.passed;
-      };
-    }
+      },
+    )
+
+-- what is shown of what a class file says
+shown_found : (v : View) → IsShown v (shown v)
+shown_found v = by_test (ltb v.flags 0x8000) refl
+  where
+    by_test : (b : Bool) → ltb v.flags 0x8000 ≡ b → IsShown v (cond b (Some v) None)
+    by_test true is = (ltb-true _ _ is, refl)
+    by_test false is = ltb-false _ _ is
+
+shown_only : (v : View) (r : Option View) → IsShown v r → shown v ≡ r
+shown_only v None is = let past : ltb v.flags 0x8000 ≡ false = le-ltb _ _ is in rw past refl
+shown_only v (Some w) is = let below : ltb v.flags 0x8000 ≡ true = lt-ltb _ _ is.0 in rw below (ap (λ (x : View). Some x) (sym is.1))
 
 -- what is read is a class file with that view
-pub class_found : (bytes : List ℕ) (v : View) → IsBytes bytes → class_of bytes ≡ Ok v → Reads bytes v
+pub class_found : (bytes : List ℕ) (r : Option View) → IsBytes bytes → class_of bytes ≡ Ok r → Reads bytes r
 unfolding class_of
-class_found bytes v fits e =
-    let a = bind_ok (header_kept bytes) _ v e in
-    let b = bind_ok (in_pool (pool_at bytes 8)) _ v a.2 in
+class_found bytes r fits e =
+    let a = bind_ok (header_kept bytes) _ r e in
+    let b = bind_ok (in_pool (pool_at bytes 8)) _ r a.2 in
+    let c = bind_ok (body_at b.0.0 b.0.1) _ r b.2 in
     let header = header_found bytes fits a.0 a.1 in
     let pool = pool_found bytes fits 8 b.0 (in_ok (pool_at bytes 8) b.0 b.1) in
     let fits1 = subst (λ (x : List ℕ). IsBytes x) (sym pool.bytes_are) fits in
-    assembled bytes b.0.0 fits1 b.0.1 v header pool (body_found b.0.0 fits1 pool.constants pool.holds b.0.1 v b.2)
+    let file = assembled bytes b.0.0 fits1 b.0.1 c.0 header pool (body_found b.0.0 fits1 pool.constants pool.holds b.0.1 c.0 c.1) in
+    subst (λ (x : Option View). Reads bytes x) (ok_is (shown c.0) r c.2) (record { file = file.0; spelled = file.1; view = c.0; is = file.2; shown = shown_found c.0 })
 
 abbrev text_of_body : ClassFile → List ℕ
-text_of_body c = body_text c.flags c.this c.super c.interfaces c.methods c.attributes
+text_of_body c = body_text c.flags c.this c.super c.interfaces c.fields c.methods c.attributes
 
 abbrev IsBodyOf : List Constant → ClassFile → View → Type 0
-IsBodyOf cs c v = IsBody cs c.flags c.this c.super c.interfaces c.methods c.attributes v
+IsBodyOf cs c v = IsBody cs c.flags c.this c.super c.interfaces c.fields c.methods c.attributes v
 
 body_of : (c : ClassFile) (v : View) → IsViewOf c v → IsBodyOf c.pool c v
 body_of c v is = record {
-  type = is.type;
+  flags_few = is.flags_few;
   flags_are = is.flags;
   name = is.name;
   super_is = is.super;
   few_interfaces = is.few_interfaces;
   interfaces_are = is.interfaces;
-  fields = is.fields;
+  few_fields = is.few_fields;
+  fields_are = is.fields;
   few_methods = is.few_methods;
   methods_are = is.methods;
   distinct = methods_distinct v.methods is.distinct;
@@ -139,26 +154,28 @@ body_again : (bytes : List ℕ) → IsBytes bytes → (c : ClassFile) (v : View)
 body_again bytes fits c v pool end bytes_are holds is s =
     let fits1 = subst (λ (x : List ℕ). IsBytes x) (sym bytes_are) fits in
     let here = subst (λ (x : List ℕ). Stands x end (text_of_body c) (length x)) (sym bytes_are) s in
-    body_only pool fits1 c.pool holds end c.flags c.this c.super c.interfaces c.methods c.attributes v (body_of c v is) here
+    body_only pool fits1 c.pool holds end c.flags c.this c.super c.interfaces c.fields c.methods c.attributes v (body_of c v is) here
 
 -- a class file is read, with its view
-pub class_only : (bytes : List ℕ) (v : View) → IsBytes bytes → Reads bytes v → class_of bytes ≡ Ok v
+pub class_only : (bytes : List ℕ) (s : Option View) → IsBytes bytes → Reads bytes s → class_of bytes ≡ Ok s
 unfolding class_of
-class_only bytes v fits r =
+class_only bytes view fits r =
     let c = r.file in
-    let is = r.view in
+    let v = r.view in
+    let is = r.is in
     let text : List ℕ = text_of_body c in
     let s = is_whole bytes (spelling c) r.spelled in
     let h = header_only bytes c.minor c.major (u2 (1 + length (slots c.pool)) ++ (flat_map constant c.pool ++ text)) (length bytes) is.minor is.from is.to s in
     let p = pool_only bytes 8 c.pool text (length bytes) is.pool h.1 in
-    rw (h.0, p.read_is) (body_again bytes fits c v p.pool p.end p.bytes_are p.holds is p.stands)
+    let body = body_again bytes fits c v p.pool p.end p.bytes_are p.holds is p.stands in
+    rw (h.0, p.read_is, body) (ap (λ (x : Option View). Ok x) (shown_only v view r.shown))
 
 -- what a reader answers
-pub is_found : (bytes : List ℕ) (r : Result View (ReadError ClassFault)) → IsBytes bytes → Gives (λ v. v) r (class_of bytes) → IfOk r (λ v. Reads bytes v)
+pub is_found : (bytes : List ℕ) (r : Result (Option View) (ReadError ClassFault)) → IsBytes bytes → Gives (λ v. v) r (class_of bytes) → IfOk r (λ v. Reads bytes v)
 is_found bytes (Ok v) fits given = class_found bytes v fits given
 is_found bytes (Err e) fits given = tt
 
-verdict_by : (bytes : List ℕ) → IsBytes bytes → (r : Result View ClassFault) → class_of bytes ≡ r → Verdict bytes
+verdict_by : (bytes : List ℕ) → IsBytes bytes → (r : Result (Option View) ClassFault) → class_of bytes ≡ r → Verdict bytes
 verdict_by bytes fits (Ok v) is =
     IsRead v (class_found bytes v fits is) (λ w reads. ok_is w v (sym (class_only bytes w fits reads) ∙ is)) (λ f broken. ok_or_err v f (sym is ∙ broken))
 verdict_by bytes fits (Err f) is =

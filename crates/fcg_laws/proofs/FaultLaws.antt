@@ -10,7 +10,7 @@ use Rattle.fcg_grammar.proofs.FaultLaws.{bind_err, BrokenRow, rows_err, each_err
 use Rattle.fcg_views.specs.declared.view.Method.{Method}
 use Rattle.fcg_views.specs.declared.fault.PoolFault.{PoolFault}
 use Rattle.fcg_views.specs.declared.fault.ClassFault.{ClassFault}
-use Rattle.fcg_views.specs.ClassFile.{Constant, slots, MethodInfo, method_info}
+use Rattle.fcg_views.specs.ClassFile.{Constant, slots, MemberInfo, member_info}
 use Rattle.fcg_views.specs.Breaks.Words.{is_alike}
 use Rattle.fcg_views.specs.Breaks.Number.{u2_at}
 use Rattle.fcg_views.specs.Breaks.Pool as pools
@@ -82,7 +82,7 @@ module _ (bytes : List ℕ) (fits : IsBytes bytes) where
 -- ---- the methods
 module _ (pool : Entries) (fits : IsBytes pool.bytes) (constants : List Constant) (holds : Holds pool constants) where
   -- the methods that were read are those before the next
-  kept_earlier : (s : Begun) (cs : List MethodInfo) (ms : List Method) (end : Begun) → Follow pool fits constants holds s cs ms end → s.earlier ++ ms ≡ end.earlier
+  kept_earlier : (s : Begun) (cs : List MemberInfo) (ms : List Method) (end : Begun) → Follow pool fits constants holds s cs ms end → s.earlier ++ ms ≡ end.earlier
   kept_earlier s [] [] end l = append-nil s.earlier ∙ ap (λ (b : Begun). b.earlier) l
   kept_earlier s [] (m ∷ ms) end l = absurd l
   kept_earlier s (c ∷ cs) [] end l = absurd l
@@ -97,7 +97,7 @@ module _ (pool : Entries) (fits : IsBytes pool.bytes) (constants : List Constant
 
   in_method : (at count : ℕ) (f : ClassFault) → Stands pool.bytes at (u2 count) (at + 2) → BrokenRow (method_at pool) count 0 (begun_at (at + 2)) f → BrokenMethods pool constants at f
   in_method at count f s r =
-      let found = states.rows_kept pool.bytes place method_info (MeansMethod constants) (method_at pool) (HasFew pool fits constants holds) (method_found pool fits constants holds) (length r.front) 0 (begun_at (at + 2)) (r.front, r.at) s.within (omega arith) r.read_is in
+      let found = states.rows_kept pool.bytes place member_info (MeansMethod constants) (method_at pool) (HasFew pool fits constants holds) (method_found pool fits constants holds) (length r.front) 0 (begun_at (at + 2)) (r.front, r.at) s.within (omega arith) r.read_is in
       let along = follow_found pool fits constants holds (begun_at (at + 2)) found.table r.front r.at found.meant in
       let earlier : r.front ≡ r.at.earlier = kept_earlier (begun_at (at + 2)) found.table r.front r.at found.meant in
       let here : Begun = record { at = r.at.at; earlier = r.front } in

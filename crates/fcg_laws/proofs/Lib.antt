@@ -4,11 +4,14 @@ pub mod PoolPlaces
 pub mod PoolLaws
 pub mod SlotLaws
 pub mod NameLaws
+pub mod TypeNameLaws
 pub mod KeptLaws
 pub mod TableLaws
 pub mod Fresh
 pub mod WordLaws
 pub mod AttributeLaws
+pub mod DeclaredLaws
+pub mod FieldLaws
 pub mod MethodLaws
 pub mod TypeLaws
 pub mod BodyLaws

@@ -1,21 +1,18 @@
 -- Methods: what is read is spelled so, and what is spelled so is read.
-use Rattle.std.proofs.Common.{◌≡◌, ℕ, ◌+◌, ◌^◌, ◌<◌, ◌≤◌, Bool, true, false, not, ltb, List, [], ◌∷◌, ◌++◌, length, refl, sym, ap, subst, ◌∙◌, append_assoc, arith}
+use Rattle.std.proofs.Common.{◌≡◌, ℕ, ◌+◌, ◌^◌, ◌<◌, ◌≤◌, Bool, true, false, not, List, [], ◌∷◌, ◌++◌, length, refl, sym, ap, subst, ◌∙◌, append_assoc, arith}
 use Rattle.std.specs.Prelude.{Ok}
 use Rattle.std.specs.List.{flat_map, list_any, AllZip, IsDistinct}
-use Rattle.std.proofs.lemmas.Bool.{ltb-true, lt-ltb}
-use Rattle.std.proofs.lemmas.List.{append-nil, length-append}
+use Rattle.std.proofs.lemmas.List.{append-nil}
 use Rattle.std.proofs.lemmas.List.Sums.{sum_by-cons, sum_by-append, sum_by_push}
 use Rattle.fcg_grammar.specs.Reading.{unless_broken}
 use Rattle.fcg_grammar.specs.Rows.{rows}
 use Rattle.fcg_grammar.specs.Spell.{IsBytes, u2}
 use Rattle.fcg_grammar.proofs.LawLemmas.{bind_ok, kept_ok}
-use Rattle.fcg_grammar.proofs.Standing.{Stands, Stands-then, Stands-to, ok_is}
+use Rattle.fcg_grammar.proofs.Standing.{Stands, Stands-then, ok_is}
 use Rattle.fcg_grammar.proofs.StateRowLaws.{Linked, FoundRow, rows_kept, rows_only}
 use Rattle.fcg_views.specs.declared.view.Method.{Method}
-use Rattle.fcg_views.specs.declared.view.Site.{Site}
-use Rattle.fcg_views.specs.declared.fault.ClassRule.TheVariants.{Descriptor, EmptyName, DoubleMethod}
-use Rattle.fcg_views.specs.ClassFile.{Constant, attribute, MethodInfo, method_info}
-use Rattle.fcg_views.specs.Constants.{NamesUtf8}
+use Rattle.fcg_views.specs.declared.fault.ClassRule.TheVariants.{DoubleMethod}
+use Rattle.fcg_views.specs.ClassFile.{Constant, attribute, MemberInfo, member_info}
 use Rattle.fcg_views.specs.Reads.{IsMethodOf}
 use Rattle.fcg_views.specs.Descriptor.{IsDescriptor}
 use Rattle.fcg_views.specs.DescSteps.{is_descriptor}
@@ -24,27 +21,17 @@ use Rattle.fcg_views.specs.Breaks.Words.{is_alike}
 use Rattle.fcg_views.specs.Breaks.Fault.{fault}
 use Rattle.fcg_views.specs.Breaks.Number.{u2_at}
 use Rattle.fcg_views.specs.Breaks.Pool.{Entries}
-use Rattle.fcg_views.specs.Breaks.Attributes.{text_at}
-use Rattle.fcg_views.specs.Breaks.Members.{method_attributes_at, with_sites, Begun, declared_at, method_at, methods_at}
+use Rattle.fcg_views.specs.Breaks.Members.{method_attributes_at, Declared, method_of, Begun, declared_at, method_at, methods_at}
 use Rattle.fcg_views.proofs.DescLaws.{descriptor_found, descriptor_only}
-use Rattle.fcg_laws.proofs.Places.{u2_found, u2_only, closed, opened}
+use Rattle.fcg_laws.proofs.Places.{u2_found, u2_only, row_end, closed, opened}
 use Rattle.fcg_laws.specs.Tables.{Holds}
-use Rattle.fcg_laws.proofs.AttributeLaws.{text_at_found, text_at_only}
+use Rattle.fcg_laws.proofs.DeclaredLaws.{declared_found, declared_only}
 use Rattle.fcg_laws.proofs.MethodAttributeLaws.{body_found, body_only}
 use Rattle.fcg_laws.proofs.Fresh.{IsFresh, AreFresh, distinct_found, distinct_only}
 
 not_true : (b : Bool) → not b ≡ true → b ≡ false
 not_true true e = absurd cc
 not_true false e = refl
-
-four : (at : ℕ) → at + 2 + 2 ≡ at + 4
-four at = omega arith
-
-four_two : (at : ℕ) → at + 4 + 2 ≡ at + 6
-four_two at = omega arith
-
-abbrev made : List ℕ → List ℕ → ℕ → List Site → Method
-made name desc flags sites = record { name = name; desc = desc; flags = flags; sites = sites }
 
 -- the sites of one method more
 count_more : (earlier : List Method) (m : Method) → site_count (earlier ++ m ∷ []) ≡ site_count earlier + length m.sites
@@ -59,73 +46,15 @@ count_front earlier m ms few =
 one_more : (earlier : List Method) (m : Method) (ms : List Method) → (earlier ++ m ∷ []) ++ ms ≡ earlier ++ m ∷ ms
 one_more earlier m ms = append_assoc earlier (m ∷ []) ms
 
--- where a row ends
-row_end : (bytes : List ℕ) (at end after : ℕ) (text rest : List ℕ) → Stands bytes at (text ++ rest) after → Stands bytes end rest after → end ≡ at + length text
-row_end bytes at end after text rest s t = let a = s.ends in let b = t.ends in omega (arith, a, b, length-append text rest)
-
 -- from method to method, with the methods before
-pub record MeansMethod (cs : List Constant) (s : Begun) (c : MethodInfo) (m : Method) (next : Begun) : Type 0 where
+pub record MeansMethod (cs : List Constant) (s : Begun) (c : MemberInfo) (m : Method) (next : Begun) : Type 0 where
   pub method : IsMethodOf cs c m
   pub fresh : IsFresh is_alike s.earlier m
   pub few : site_count s.earlier + length m.sites ≤ 1000000
-  pub at : next.at ≡ s.at + length (method_info c)
+  pub at : next.at ≡ s.at + length (member_info c)
   pub earlier : next.earlier ≡ s.earlier ++ m ∷ []
 
 module _ (pool : Entries) (fits : IsBytes pool.bytes) (constants : List Constant) (holds : Holds pool constants) where
-  pub record FoundDeclared (at : ℕ) (m : Method) : Type 0 where
-    pub flags : ℕ
-    pub name : ℕ
-    pub desc : ℕ
-    pub stands : Stands pool.bytes at (u2 flags ++ (u2 name ++ u2 desc)) (at + 6)
-    pub flags_few : flags < 2 ^ 16
-    pub flags_are : m.flags ≡ flags
-    pub name_few : name < 2 ^ 16
-    pub name_is : NamesUtf8 constants name m.name
-    pub filled : 0 < length m.name
-    pub desc_few : desc < 2 ^ 16
-    pub desc_is : NamesUtf8 constants desc m.desc
-    pub typed : IsDescriptor m.desc
-
-  pub declared_found : (at : ℕ) (m : Method) → declared_at pool at ≡ Ok m → FoundDeclared at m
-  unfolding declared_at
-  declared_found at m e =
-      let a = bind_ok (u2_at pool.bytes at 0) _ m e in
-      let b = bind_ok (text_at pool (at + 2)) _ m a.2 in
-      let c = bind_ok (unless_broken (ltb 0 (length b.0)) (fault (at + 2) 0 EmptyName)) _ m b.2 in
-      let d = bind_ok (text_at pool (at + 4)) _ m c.2 in
-      let f = bind_ok (unless_broken (is_descriptor d.0) (fault (at + 4) 0 Descriptor)) _ m d.2 in
-      let flags = u2_found pool.bytes at 0 a.0 fits a.1 in
-      let name = text_at_found pool fits constants holds (at + 2) b.0 b.1 in
-      let desc = text_at_found pool fits constants holds (at + 4) d.0 d.1 in
-      let s1 = Stands-to (at + 4) (four at) name.stands in
-      let s2 = Stands-to (at + 6) (four_two at) desc.stands in
-      subst (λ (x : Method). FoundDeclared at x) (ok_is (made b.0 d.0 a.0 []) m f.2) (record {
-        flags = a.0;
-        name = name.index;
-        desc = desc.index;
-        stands = Stands-then flags.0 (Stands-then s1 s2);
-        flags_few = flags.1;
-        flags_are = refl;
-        name_few = name.few;
-        name_is = name.named;
-        filled = ltb-true _ _ (kept_ok _ _ c.0 c.1);
-        desc_few = desc.few;
-        desc_is = desc.named;
-        typed = descriptor_found d.0 (kept_ok _ _ f.0 f.1);
-      })
-
-  pub declared_only : (at : ℕ) (c : MethodInfo) (m : Method) (rest : List ℕ) (after : ℕ) → IsMethodOf constants c m → Stands pool.bytes at (u2 c.flags ++ (u2 c.name ++ (u2 c.desc ++ rest))) after
-      → (declared_at pool at ≡ Ok (with_sites m [])) × Stands pool.bytes (at + 6) rest after
-  unfolding declared_at
-  declared_only at c m rest after is s =
-      let a = u2_only pool.bytes at 0 c.flags (u2 c.name ++ (u2 c.desc ++ rest)) after is.flags s in
-      let b = text_at_only pool fits constants holds (at + 2) c.name m.name (u2 c.desc ++ rest) after is.name_index is.name a.1 in
-      let filled : ltb 0 (length m.name) ≡ true = lt-ltb _ _ is.filled in
-      let s4 = subst (λ (n : ℕ). Stands pool.bytes n (u2 c.desc ++ rest) after) (four at) b.1 in
-      let d = text_at_only pool fits constants holds (at + 4) c.desc m.desc rest after is.desc_index is.desc s4 in
-      let typed = descriptor_only m.desc is.typed in
-      (rw (a.0, b.0, filled, d.0, typed) (ap (λ (n : ℕ). Ok (made m.name m.desc n [])) (sym is.flags_are)), subst (λ (n : ℕ). Stands pool.bytes n rest after) (four_two at) d.1)
-
   abbrev place : Begun → ℕ
   place s = s.at
 
@@ -133,32 +62,21 @@ module _ (pool : Entries) (fits : IsBytes pool.bytes) (constants : List Constant
   abbrev pub HasFew : Begun → Type 0
   HasFew s = site_count s.earlier ≤ 1000000
 
-  row_found : (k : ℕ) (s : Begun) (x : Method × Begun) → HasFew s → method_at pool k s ≡ Ok x → FoundRow pool.bytes place method_info (MeansMethod constants) (method_at pool) s x.0 x.1
+  row_found : (k : ℕ) (s : Begun) (x : Method × Begun) → HasFew s → method_at pool k s ≡ Ok x → FoundRow pool.bytes place member_info (MeansMethod constants) (method_at pool) s x.0 x.1
   unfolding method_at
   row_found k s x le e =
-      let a = bind_ok (declared_at pool s.at) _ x e in
-      let b = bind_ok (unless_broken (not (list_any (λ earlier. is_alike earlier a.0) s.earlier)) (fault s.at 0 DoubleMethod)) _ x a.2 in
+      let a = bind_ok (declared_at pool is_descriptor s.at) _ x e in
+      let b = bind_ok (unless_broken (not (list_any (λ earlier. is_alike earlier (method_of a.0 [])) s.earlier)) (fault s.at 0 DoubleMethod)) _ x a.2 in
       let c = bind_ok (method_attributes_at pool (site_count s.earlier) (s.at + 6)) _ x b.2 in
-      let d = declared_found s.at a.0 a.1 in
+      let d = declared_found IsDescriptor is_descriptor descriptor_found descriptor_only pool fits constants holds s.at a.0 a.1 in
       let body = body_found pool fits constants holds (site_count s.earlier) le (s.at + 6) c.0 c.1 in
-      let info : MethodInfo = record { flags = d.flags; name = d.name; desc = d.desc; attributes = body.table } in
+      let info : MemberInfo = record { flags = d.flags; name = d.name; desc = d.desc; attributes = body.table } in
       let whole = closed (u2 d.flags ++ (u2 d.name ++ (u2 d.desc ++ u2 (length body.table)))) (flat_map attribute body.table) (Stands-then d.stands body.stands) in
-      subst (λ (y : Method × Begun). FoundRow pool.bytes place method_info (MeansMethod constants) (method_at pool) s y.0 y.1) (ok_is _ x c.2) (record {
+      subst (λ (y : Method × Begun). FoundRow pool.bytes place member_info (MeansMethod constants) (method_at pool) s y.0 y.1) (ok_is _ x c.2) (record {
         row = info;
         stands = whole;
         meant = record {
-          method = record {
-            flags = d.flags_few;
-            flags_are = d.flags_are;
-            name_index = d.name_few;
-            name = d.name_is;
-            filled = d.filled;
-            desc_index = d.desc_few;
-            desc = d.desc_is;
-            typed = d.typed;
-            few_attributes = body.few;
-            sites = body.sites;
-          };
+          method = record { declared = d.declared body.table; few_attributes = body.few; sites = body.sites };
           fresh = not_true _ (kept_ok _ _ b.0 b.1);
           few = body.few_sites;
           at = whole.ends;
@@ -166,30 +84,31 @@ module _ (pool : Entries) (fits : IsBytes pool.bytes) (constants : List Constant
         };
       })
 
-  pub method_found : (k : ℕ) (s : Begun) (x : Method × Begun) → s.at ≤ length pool.bytes → HasFew s → method_at pool k s ≡ Ok x → FoundRow pool.bytes place method_info (MeansMethod constants) (method_at pool) s x.0 x.1 × HasFew x.1
+  pub method_found : (k : ℕ) (s : Begun) (x : Method × Begun) → s.at ≤ length pool.bytes → HasFew s → method_at pool k s ≡ Ok x → FoundRow pool.bytes place member_info (MeansMethod constants) (method_at pool) s x.0 x.1 × HasFew x.1
   method_found k s x at few e =
       let r = row_found k s x few e in
       let m = r.meant in
       let count : site_count x.1.earlier ≡ site_count s.earlier + length x.0.sites = ap site_count m.earlier ∙ count_more s.earlier x.0 in
       (r, (let some = m.few in omega arith))
 
-  method_only : (k : ℕ) (s : Begun) (c : MethodInfo) (m : Method) (next : Begun) (rest : List ℕ) (after : ℕ) → MeansMethod constants s c m next → Stands pool.bytes s.at (method_info c ++ rest) after
-      → (method_at pool k s ≡ Ok (m, next)) × (next.at ≡ s.at + length (method_info c))
+  method_only : (k : ℕ) (s : Begun) (c : MemberInfo) (m : Method) (next : Begun) (rest : List ℕ) (after : ℕ) → MeansMethod constants s c m next → Stands pool.bytes s.at (member_info c ++ rest) after
+      → (method_at pool k s ≡ Ok (m, next)) × (next.at ≡ s.at + length (member_info c))
   unfolding method_at
   method_only k s c m next rest after is t =
       let table : List ℕ = flat_map attribute c.attributes in
       let here = opened (u2 c.flags ++ (u2 c.name ++ (u2 c.desc ++ u2 (length c.attributes)))) table rest t in
-      let d = declared_only s.at c m (u2 (length c.attributes) ++ (table ++ rest)) after is.method here in
+      let declared : Declared = record { flags = m.flags; name = m.name; desc = m.desc } in
+      let d = declared_only IsDescriptor is_descriptor descriptor_found descriptor_only pool fits constants holds s.at c declared (u2 (length c.attributes) ++ (table ++ rest)) after is.method.declared here in
       let a = body_only pool fits constants holds (site_count s.earlier) (s.at + 6) c.attributes m.sites rest after is.method.few_attributes is.method.sites is.few d.1 in
-      let end : a.end.at ≡ next.at = row_end pool.bytes s.at a.end.at after (method_info c) rest t a.stands ∙ sym is.at in
+      let end : a.end.at ≡ next.at = row_end pool.bytes s.at a.end.at after (member_info c) rest t a.stands ∙ sym is.at in
       (rw (d.0, is.fresh, a.read_is, a.sites_are, end, ← is.earlier) refl, is.at)
 
 -- ---- along the rows
 module _ (pool : Entries) (fits : IsBytes pool.bytes) (constants : List Constant) (holds : Holds pool constants) where
-  abbrev pub Follow : Begun → List MethodInfo → List Method → Begun → Type 0
-  Follow s cs ms end = Linked pool.bytes (λ (b : Begun). b.at) method_info (MeansMethod constants) (method_at pool) s cs ms end
+  abbrev pub Follow : Begun → List MemberInfo → List Method → Begun → Type 0
+  Follow s cs ms end = Linked pool.bytes (λ (b : Begun). b.at) member_info (MeansMethod constants) (method_at pool) s cs ms end
 
-  pub follow_found : (s : Begun) (cs : List MethodInfo) (ms : List Method) (end : Begun) → Follow s cs ms end → AllZip (IsMethodOf constants) cs ms × AreFresh is_alike s.earlier ms
+  pub follow_found : (s : Begun) (cs : List MemberInfo) (ms : List Method) (end : Begun) → Follow s cs ms end → AllZip (IsMethodOf constants) cs ms × AreFresh is_alike s.earlier ms
   follow_found s [] [] end l = (tt, tt)
   follow_found s [] (m ∷ ms) end l = absurd l
   follow_found s (c ∷ cs) [] end l = absurd l
@@ -198,7 +117,7 @@ module _ (pool : Entries) (fits : IsBytes pool.bytes) (constants : List Constant
       ((l.1.method, below.0), (l.1.fresh, subst (λ (e : List Method). AreFresh is_alike e ms) l.1.earlier below.1))
 
   -- the sites of all methods are few
-  follow_few : (s : Begun) (cs : List MethodInfo) (ms : List Method) (end : Begun) → Follow s cs ms end → site_count s.earlier ≤ 1000000 → site_count (s.earlier ++ ms) ≤ 1000000
+  follow_few : (s : Begun) (cs : List MemberInfo) (ms : List Method) (end : Begun) → Follow s cs ms end → site_count s.earlier ≤ 1000000 → site_count (s.earlier ++ ms) ≤ 1000000
   follow_few s [] [] end l few = subst (λ (e : List Method). site_count e ≤ 1000000) (sym (append-nil s.earlier)) few
   follow_few s [] (m ∷ ms) end l few = absurd l
   follow_few s (c ∷ cs) [] end l few = absurd l
@@ -208,18 +127,18 @@ module _ (pool : Entries) (fits : IsBytes pool.bytes) (constants : List Constant
       let below = follow_few next cs ms end more (omega arith) in
       subst (λ (e : List Method). site_count e ≤ 1000000) (ap (λ (e : List Method). e ++ ms) is.earlier ∙ one_more s.earlier m ms) below
 
-  follow_only : (s : Begun) (cs : List MethodInfo) (ms : List Method) → AllZip (IsMethodOf constants) cs ms → AreFresh is_alike s.earlier ms → site_count (s.earlier ++ ms) ≤ 1000000 → (end : Begun) × Follow s cs ms end
+  follow_only : (s : Begun) (cs : List MemberInfo) (ms : List Method) → AllZip (IsMethodOf constants) cs ms → AreFresh is_alike s.earlier ms → site_count (s.earlier ++ ms) ≤ 1000000 → (end : Begun) × Follow s cs ms end
   follow_only s [] [] z f few = (s, refl)
   follow_only s [] (m ∷ ms) z f few = absurd z
   follow_only s (c ∷ cs) [] z f few = absurd z
   follow_only s (c ∷ cs) (m ∷ ms) z f few =
-      let next : Begun = record { at = s.at + length (method_info c); earlier = s.earlier ++ m ∷ [] } in
+      let next : Begun = record { at = s.at + length (member_info c); earlier = s.earlier ++ m ∷ [] } in
       let below = follow_only next cs ms z.1 f.1 (subst (λ (e : List Method). site_count e ≤ 1000000) (sym (one_more s.earlier m ms)) few) in
       (below.0, (next, record { method = z.0; fresh = f.0; few = count_front s.earlier m ms few; at = refl; earlier = refl }, below.1))
 
   pub record FoundMethods (at : ℕ) (ms : List Method) (after : ℕ) : Type 0 where
-    pub table : List MethodInfo
-    pub stands : Stands pool.bytes at (u2 (length table) ++ flat_map method_info table) after
+    pub table : List MemberInfo
+    pub stands : Stands pool.bytes at (u2 (length table) ++ flat_map member_info table) after
     pub few : length table < 2 ^ 16
     pub methods : AllZip (IsMethodOf constants) table ms
     pub distinct : IsDistinct is_alike ms
@@ -232,11 +151,11 @@ module _ (pool : Entries) (fits : IsBytes pool.bytes) (constants : List Constant
       let a = bind_ok (u2_at pool.bytes at 0) _ x e in
       let b = bind_ok (rows (method_at pool) a.0 0 begun) _ x a.2 in
       let n = u2_found pool.bytes at 0 a.0 fits a.1 in
-      let r = rows_kept pool.bytes (λ (b : Begun). b.at) method_info (MeansMethod constants) (method_at pool) (HasFew pool fits constants holds) (method_found pool fits constants holds) a.0 0 begun b.0 n.0.within (omega arith) b.1 in
+      let r = rows_kept pool.bytes (λ (b : Begun). b.at) member_info (MeansMethod constants) (method_at pool) (HasFew pool fits constants holds) (method_found pool fits constants holds) a.0 0 begun b.0 n.0.within (omega arith) b.1 in
       let along = follow_found begun r.table b.0.0 b.0.1 r.meant in
       subst (λ (y : List Method × ℕ). FoundMethods at y.0 y.1) (ok_is _ x b.2) (record {
         table = r.table;
-        stands = subst (λ (k : ℕ). Stands pool.bytes at (u2 k ++ flat_map method_info r.table) b.0.1.at) (sym r.many) (Stands-then n.0 r.stands);
+        stands = subst (λ (k : ℕ). Stands pool.bytes at (u2 k ++ flat_map member_info r.table) b.0.1.at) (sym r.many) (Stands-then n.0 r.stands);
         few = omega (arith, r.many, n.1);
         methods = along.0;
         distinct = distinct_found is_alike b.0.0 along.1;
@@ -248,12 +167,12 @@ module _ (pool : Entries) (fits : IsBytes pool.bytes) (constants : List Constant
     pub read_is : methods_at pool at ≡ Ok (ms, end)
     pub stands : Stands pool.bytes end rest after
 
-  pub methods_only : (at : ℕ) (table : List MethodInfo) (ms : List Method) (rest : List ℕ) (after : ℕ) → length table < 2 ^ 16 → AllZip (IsMethodOf constants) table ms → IsDistinct is_alike ms → site_count ms ≤ 1000000
-      → Stands pool.bytes at (u2 (length table) ++ (flat_map method_info table ++ rest)) after → ReadMethods at ms rest after
+  pub methods_only : (at : ℕ) (table : List MemberInfo) (ms : List Method) (rest : List ℕ) (after : ℕ) → length table < 2 ^ 16 → AllZip (IsMethodOf constants) table ms → IsDistinct is_alike ms → site_count ms ≤ 1000000
+      → Stands pool.bytes at (u2 (length table) ++ (flat_map member_info table ++ rest)) after → ReadMethods at ms rest after
   unfolding methods_at
   methods_only at table ms rest after few methods distinct few_sites s =
       let begun : Begun = record { at = at + 2; earlier = [] } in
-      let n = u2_only pool.bytes at 0 (length table) (flat_map method_info table ++ rest) after few s in
+      let n = u2_only pool.bytes at 0 (length table) (flat_map member_info table ++ rest) after few s in
       let along = follow_only begun table ms methods (distinct_only is_alike ms distinct) few_sites in
-      let r = rows_only pool.bytes (λ (b : Begun). b.at) method_info (MeansMethod constants) (method_at pool) (method_only pool fits constants holds) 0 begun table ms along.0 rest after along.1 n.1 in
+      let r = rows_only pool.bytes (λ (b : Begun). b.at) member_info (MeansMethod constants) (method_at pool) (method_only pool fits constants holds) 0 begun table ms along.0 rest after along.1 n.1 in
       record { end = along.0.at; read_is = rw (n.0, r.0) refl; stands = r.1 }

@@ -1,7 +1,7 @@
 -- Numbers and strings of bytes at a place of a class file: what is read is spelled so, and what is spelled so is read.
-use Rattle.std.proofs.Common.{◌≡◌, ℕ, ◌+◌, ◌^◌, ◌<◌, List, [], ◌∷◌, ◌++◌, length, sym, subst}
+use Rattle.std.proofs.Common.{◌≡◌, ℕ, ◌+◌, ◌^◌, ◌<◌, List, [], ◌∷◌, ◌++◌, length, sym, subst, arith}
 use Rattle.std.specs.Prelude.{Ok}
-use Rattle.std.proofs.lemmas.List.{append-nil}
+use Rattle.std.proofs.lemmas.List.{append-nil, length-append}
 use Rattle.fcg_grammar.specs.Number.{part}
 use Rattle.fcg_grammar.specs.Spell.{IsBytes, u2, u4}
 use Rattle.fcg_grammar.proofs.Standing as standing
@@ -40,3 +40,7 @@ closed {bytes} {at} {after} front last s = subst (λ (l : List ℕ). Stands byte
 
 pub opened : {bytes : List ℕ} {at : ℕ} {after : ℕ} (front last rest : List ℕ) → Stands bytes at (front ++ ((last ++ []) ++ rest)) after → Stands bytes at (front ++ (last ++ rest)) after
 opened {bytes} {at} {after} front last rest s = subst (λ (l : List ℕ). Stands bytes at (front ++ (l ++ rest)) after) (append-nil last) s
+
+-- where a row ends
+pub row_end : (bytes : List ℕ) (at end after : ℕ) (text rest : List ℕ) → Stands bytes at (text ++ rest) after → Stands bytes end rest after → end ≡ at + length text
+row_end bytes at end after text rest s t = let a = s.ends in let b = t.ends in omega (arith, a, b, length-append text rest)

@@ -1,5 +1,5 @@
 -- The sites of a code: what is read is what the instructions name, and what they name is read.
-use Rattle.std.proofs.Common.{◌≡◌, ◌⊎◌, ℕ, zero, suc, ◌+◌, ◌*◌, ◌^◌, ◌≤◌, ◌<◌, Bool, true, false, not, ◌||◌, eqb, ltb, List, [], ◌∷◌, ◌++◌, length, get_or, Option, Some, None, refl, sym, ap, subst, ◌∙◌, inl, inr, arith}
+use Rattle.std.proofs.Common.{◌≡◌, ℕ, zero, suc, ◌+◌, ◌*◌, ◌^◌, ◌≤◌, ◌<◌, Bool, true, false, not, eqb, ltb, List, [], ◌∷◌, ◌++◌, length, get_or, Option, Some, None, refl, sym, ap, subst, ◌∙◌, inl, inr, arith}
 use Rattle.std.specs.Prelude.{Result, Ok, Err}
 use Rattle.std.specs.List.{flat_map}
 use Rattle.std.proofs.lemmas.Bool.{eqb-true, ltb-true, lt-ltb}
@@ -12,23 +12,25 @@ use Rattle.fcg_grammar.specs.Spell.{IsBytes, u2}
 use Rattle.fcg_grammar.proofs.LawLemmas.{bind_ok, chosen, kept_ok, ok_or_err}
 use Rattle.fcg_grammar.proofs.FaultLaws.{bind_err}
 use Rattle.fcg_grammar.proofs.Standing.{Stands, Stands-none, Stands-back, ok_is}
+use Rattle.fcg_views.specs.declared.view.Ref.{Ref}
 use Rattle.fcg_views.specs.declared.view.Site.{Site}
 use Rattle.fcg_views.specs.declared.code.CodeRule.{CodeRule}
 use Rattle.fcg_views.specs.declared.fault.ClassFault.{ClassFault}
 use Rattle.fcg_views.specs.declared.fault.ClassRule.TheVariants.{WrongKind, EmptyName, Descriptor, ManySites, NotBuilt}
 use Rattle.fcg_views.specs.ClassFile.{is_one_of, Constant}
-use Rattle.fcg_views.specs.Constants.{NamesReference}
-use Rattle.fcg_views.specs.Descriptor.{IsDescriptor}
-use Rattle.fcg_views.specs.DescSteps.{is_descriptor}
+use Rattle.fcg_views.specs.Descriptor.{IsDescriptor, IsFieldDescriptor}
+use Rattle.fcg_views.specs.DescSteps.{is_descriptor, is_field_descriptor}
 use Rattle.fcg_views.specs.Instructions.{Form, Fixed, Table, Lookup, Wide, form_of, Instruction, Plain, TableSwitch, LookupSwitch, Widened, instruction, FitsAt, FitFrom}
-use Rattle.fcg_views.specs.Sites.{SiteForm, site_form, is_unread, IsSite, IsSiteWith, AreFormed, AreSitesOf, AreSites}
+use Rattle.fcg_views.specs.Sites.{Named, Method, Field, Class, SiteForm, site_form, is_unread, IsMember, IsClass, IsNamed, IsSite, IsSiteWith, AreFormed, AreSitesOf, AreSites}
 use Rattle.fcg_views.specs.Breaks.Fault.{fault, at_place, at_opcode}
 use Rattle.fcg_views.specs.Breaks.Pool.{Entries, Reference, reference_of}
 use Rattle.fcg_views.specs.Breaks.Instructions.{next_at, operand_at}
-use Rattle.fcg_views.specs.Breaks.Code.{callee_of, site_of, site_at, sites_by, sites_at, sites_from}
-use Rattle.fcg_views.proofs.DescLaws.{descriptor_found, descriptor_only}
+use Rattle.fcg_views.specs.Breaks.Names.{type_of}
+use Rattle.fcg_views.specs.Breaks.Code.{member_of, class_ref, target_of, site_at, sites_by, sites_at, sites_from}
+use Rattle.fcg_views.proofs.DescLaws.{descriptor_found, descriptor_only, field_descriptor_found, field_descriptor_only}
 use Rattle.fcg_laws.specs.Tables.{Holds}
 use Rattle.fcg_laws.proofs.NameLaws.{at_ok, reference_found, reference_only}
+use Rattle.fcg_laws.proofs.TypeNameLaws.{type_of_found, type_of_only}
 use Rattle.fcg_laws.proofs.InstructionLaws.{FoundAt, next_found, next_only, some_byte, opcode_is, operand_is, stands_first, not_end, further}
 
 -- ---- the opcodes that are looked at have two bytes or more after them
@@ -40,9 +42,6 @@ IsLong op = (n : ℕ) × (form_of op ≡ Some (Fixed (suc (suc n))))
 by_number : (k op : ℕ) → IsLong k → eqb op k ≡ true → IsLong op
 by_number k op long e = subst IsLong (sym (eqb-true _ _ e)) long
 
-by_tag : (k op : ℕ) → IsLong k → eqb k op ≡ true → IsLong op
-by_tag k op long e = subst IsLong (eqb-true _ _ e) long
-
 called_long : (op : ℕ) (form : SiteForm) → site_form op ≡ Some form → IsLong op
 called_long op form e =
     elim (chosen (eqb op 182) _ _ _ e) [
@@ -53,31 +52,23 @@ called_long op form e =
           | inl is ↦ by_number 184 op (0, refl) is.0
           | inr c ↦ elim (chosen (eqb op 185) _ _ _ c.1) [
             | inl is ↦ by_number 185 op (2, refl) is.0
-            | inr d ↦ (let bad = d.1 in absurd cc)
+            | inr d ↦ elim (chosen (eqb op 187) _ _ _ d.1) [
+              | inl is ↦ by_number 187 op (0, refl) is.0
+              | inr f ↦ elim (chosen (eqb op 178) _ _ _ f.1) [
+                | inl is ↦ by_number 178 op (0, refl) is.0
+                | inr g ↦ elim (chosen (eqb op 179) _ _ _ g.1) [
+                  | inl is ↦ by_number 179 op (0, refl) is.0
+                  | inr h ↦ (let bad = h.1 in absurd cc)
+                ]
+              ]
+            ]
           ]
         ]
       ]
     ]
-
-either : (a b : Bool) → (a || b) ≡ true → (a ≡ true) ⊎ (b ≡ true)
-either true b e = inl refl
-either false b e = inr e
 
 unread_long : (op : ℕ) → is_unread op ≡ true → IsLong op
-unread_long op e =
-    elim (either (eqb 178 op) _ e) [
-      | inl is ↦ by_tag 178 op (0, refl) is
-      | inr a ↦ elim (either (eqb 179 op) _ a) [
-        | inl is ↦ by_tag 179 op (0, refl) is
-        | inr b ↦ elim (either (eqb 186 op) _ b) [
-          | inl is ↦ by_tag 186 op (2, refl) is
-          | inr c ↦ elim (either (eqb 187 op) _ c) [
-            | inl is ↦ by_tag 187 op (0, refl) is
-            | inr d ↦ absurd cc
-          ]
-        ]
-      ]
-    ]
+unread_long op e = by_number 186 op (2, refl) e
 
 -- an opcode of another form is none of them
 abbrev IsShortForm : Form → Type 0
@@ -107,65 +98,79 @@ all_read : (op : ℕ) (f : Form) → IsShortForm f → form_of op ≡ Some f →
 all_read op f short is = false_by (is_unread op) (λ e. not_long op f short is (unread_long op e))
 
 -- ---- a site
-pub record Callee (constants : List Constant) (tags : List ℕ) (index : ℕ) (r : Reference) : Type 0 where
-  pub named : NamesReference constants index r.tag r.owner r.name r.desc
-  pub allowed : is_one_of tags r.tag ≡ true
-  pub owner : 0 < length r.owner
-  pub name : 0 < length r.name
-  pub typed : IsDescriptor r.desc
+abbrev site : SiteForm → ℕ → Ref → Site
+site form pc target = record { pc = pc; kind = form.kind; target = target }
 
 module _ (pool : Entries) (constants : List Constant) (holds : Holds pool constants) where
-  callee_found : (tags : List ℕ) (at index : ℕ) (r : Reference) → callee_of pool tags at index ≡ Ok r → Callee constants tags index r
-  unfolding callee_of
-  callee_found tags at index r e =
-      let a = bind_ok (at_place at index (reference_of pool index)) _ r e in
-      let b = bind_ok (unless_broken (is_one_of tags a.0.tag) (fault at index WrongKind)) _ r a.2 in
-      let c = bind_ok (unless_broken (ltb 0 (length a.0.owner)) (fault at 0 EmptyName)) _ r b.2 in
-      let d = bind_ok (unless_broken (ltb 0 (length a.0.name)) (fault at 0 EmptyName)) _ r c.2 in
-      let f = bind_ok (unless_broken (is_descriptor a.0.desc) (fault at 0 Descriptor)) _ r d.2 in
-      let named = reference_found pool constants holds index a.0 (at_ok at index (reference_of pool index) a.0 a.1) in
-      subst (λ (x : Reference). Callee constants tags index x) (ok_is a.0 r f.2) (record {
-        named = named;
-        allowed = kept_ok _ _ b.0 b.1;
-        owner = ltb-true _ _ (kept_ok _ _ c.0 c.1);
-        name = ltb-true _ _ (kept_ok _ _ d.0 d.1);
-        typed = descriptor_found a.0.desc (kept_ok _ _ f.0 f.1);
-      })
+  -- a member of a type
+  module _ (IsTyped : List ℕ → Type 0) (is_typed : List ℕ → Bool) (found : (text : List ℕ) → is_typed text ≡ true → IsTyped text) (only : (text : List ℕ) → IsTyped text → is_typed text ≡ true) where
+    member_found : (tags : List ℕ) (at index : ℕ) (r : Ref) → member_of pool is_typed tags at index ≡ Ok r → IsMember constants IsTyped tags index r
+    unfolding member_of
+    member_found tags at index r e =
+        let a = bind_ok (at_place at index (reference_of pool index)) _ r e in
+        let b = bind_ok (unless_broken (is_one_of tags a.0.tag) (fault at index WrongKind)) _ r a.2 in
+        let c = bind_ok (unless_broken (ltb 0 (length a.0.owner)) (fault at 0 EmptyName)) _ r b.2 in
+        let d = bind_ok (unless_broken (ltb 0 (length a.0.name)) (fault at 0 EmptyName)) _ r c.2 in
+        let f = bind_ok (unless_broken (is_typed a.0.desc) (fault at 0 Descriptor)) _ r d.2 in
+        let named = reference_found pool constants holds index a.0 (at_ok at index (reference_of pool index) a.0 a.1) in
+        subst (λ (x : Ref). IsMember constants IsTyped tags index x) (ok_is _ r f.2) (record {
+          tag = a.0.tag;
+          allowed = kept_ok _ _ b.0 b.1;
+          named = named;
+          interface = refl;
+          owner = ltb-true _ _ (kept_ok _ _ c.0 c.1);
+          name = ltb-true _ _ (kept_ok _ _ d.0 d.1);
+          typed = found a.0.desc (kept_ok _ _ f.0 f.1);
+        })
 
-  callee_only : (tags : List ℕ) (at index : ℕ) (r : Reference) → Callee constants tags index r → callee_of pool tags at index ≡ Ok r
-  unfolding callee_of
-  callee_only tags at index r is =
-      let named = reference_only pool constants holds index r is.named in
-      let owner : ltb 0 (length r.owner) ≡ true = lt-ltb _ _ is.owner in
-      let name : ltb 0 (length r.name) ≡ true = lt-ltb _ _ is.name in
-      let typed = descriptor_only r.desc is.typed in
-      rw (named, is.allowed, owner, name, typed) refl
+    member_only : (tags : List ℕ) (at index : ℕ) (r : Ref) → IsMember constants IsTyped tags index r → member_of pool is_typed tags at index ≡ Ok r
+    unfolding member_of
+    member_only tags at index r is =
+        let reference : Reference = record { tag = is.tag; owner = r.owner; name = r.name; desc = r.desc } in
+        let named = reference_only pool constants holds index reference is.named in
+        let owner : ltb 0 (length r.owner) ≡ true = lt-ltb _ _ is.owner in
+        let name : ltb 0 (length r.name) ≡ true = lt-ltb _ _ is.name in
+        let typed = only r.desc is.typed in
+        rw (named, is.allowed, owner, name, typed) (ap (λ (b : Bool). Ok (record { owner = r.owner; owner_is_interface_ref = b; name = r.name; desc = r.desc })) (sym is.interface))
 
-  -- what a site names
-  abbrev named_by : ℕ → Site → Reference
-  named_by tag s = record { tag = tag; owner = s.target.owner; name = s.target.name; desc = s.target.desc }
+  abbrev made_ref : List ℕ → Bool → List ℕ → List ℕ → Ref
+  made_ref owner interface name desc = record { owner = owner; owner_is_interface_ref = interface; name = name; desc = desc }
 
-  made_is : (form : SiteForm) (pc tag : ℕ) (s : Site) → s.pc ≡ pc → s.kind ≡ form.kind → s.target.owner_is_interface_ref ≡ eqb tag 11 → site_of form pc (named_by tag s) ≡ s
-  made_is form pc tag s p k i = rw (← p, ← k, ← i) refl
+  class_is : (r : Ref) → r.owner_is_interface_ref ≡ false → r.name ≡ [] → r.desc ≡ [] → class_ref r.owner ≡ r
+  class_is r i n d = ap (λ (b : Bool). made_ref r.owner b [] []) (sym i) ∙ ap (λ (l : List ℕ). made_ref r.owner r.owner_is_interface_ref l []) (sym n) ∙ ap (λ (l : List ℕ). made_ref r.owner r.owner_is_interface_ref r.name l) (sym d)
+
+  target_found : (named : Named) (at index : ℕ) (r : Ref) → target_of pool named at index ≡ Ok r → IsNamed constants named index r
+  target_found (Method tags) at index r e = member_found IsDescriptor is_descriptor descriptor_found descriptor_only tags at index r e
+  target_found Field at index r e = member_found IsFieldDescriptor is_field_descriptor field_descriptor_found field_descriptor_only (9 ∷ []) at index r e
+  target_found Class at index r e =
+      let a = bind_ok (type_of pool at index) _ r e in
+      let t = type_of_found pool constants holds at index a.0 a.1 in
+      subst (λ (x : Ref). IsClass constants index x) (ok_is (class_ref a.0) r a.2) (record { named = t.0; owner = t.1; interface = refl; name = refl; desc = refl })
+
+  target_only : (named : Named) (at index : ℕ) (r : Ref) → IsNamed constants named index r → target_of pool named at index ≡ Ok r
+  target_only (Method tags) at index r is = member_only IsDescriptor is_descriptor descriptor_found descriptor_only tags at index r is
+  target_only Field at index r is = member_only IsFieldDescriptor is_field_descriptor field_descriptor_found field_descriptor_only (9 ∷ []) at index r is
+  target_only Class at index r is = rw (type_of_only pool constants holds at index r.owner is.named is.owner) (ap (λ (x : Ref). Ok x) (class_is r is.interface is.name is.desc))
+
+  made_is : (form : SiteForm) (pc : ℕ) (s : Site) → s.pc ≡ pc → s.kind ≡ form.kind → site form pc s.target ≡ s
+  made_is form pc s p k = rw (← p, ← k) refl
 
   module _ (begin : ℕ) (code : List ℕ) where
     site_found : (form : SiteForm) (pc count : ℕ) (s : Site) → site_at pool begin code form pc count ≡ Ok s → IsSite constants form pc (operand_at code pc) s × (count < 1000000)
     unfolding site_at
     site_found form pc count s e =
-        let a = bind_ok (callee_of pool form.tags (begin + pc) (operand_at code pc)) _ s e in
+        let a = bind_ok (target_of pool form.named (begin + pc) (operand_at code pc)) _ s e in
         let b = bind_ok (unless_broken (ltb count 1000000) (fault (begin + pc) 0 ManySites)) _ s a.2 in
-        let c = callee_found form.tags (begin + pc) (operand_at code pc) a.0 a.1 in
+        let t = target_found form.named (begin + pc) (operand_at code pc) a.0 a.1 in
         let few : count < 1000000 = ltb-true _ _ (kept_ok _ _ b.0 b.1) in
-        subst (λ (x : Site). IsSite constants form pc (operand_at code pc) x × (count < 1000000)) (ok_is (site_of form pc a.0) s b.2)
-        (record { pc_is = refl; kind_is = refl; tag = a.0.tag; allowed = c.allowed; named = c.named; interface = refl; owner = c.owner; name = c.name; typed = c.typed }, few)
+        subst (λ (x : Site). IsSite constants form pc (operand_at code pc) x × (count < 1000000)) (ok_is (site form pc a.0) s b.2) (record { pc_is = refl; kind_is = refl; target = t }, few)
 
     site_only : (form : SiteForm) (pc count : ℕ) (s : Site) → count < 1000000 → IsSite constants form pc (operand_at code pc) s → site_at pool begin code form pc count ≡ Ok s
     unfolding site_at
     site_only form pc count s few is =
-        let callee : Callee constants form.tags (operand_at code pc) (named_by is.tag s) = record { named = is.named; allowed = is.allowed; owner = is.owner; name = is.name; typed = is.typed } in
-        let c = callee_only form.tags (begin + pc) (operand_at code pc) (named_by is.tag s) callee in
+        let t = target_only form.named (begin + pc) (operand_at code pc) s.target is.target in
         let counted : ltb count 1000000 ≡ true = lt-ltb _ _ few in
-        rw (c, counted) (ap (λ (x : Site). Ok x) (made_is form pc is.tag s is.pc_is is.kind_is is.interface))
+        rw (t, counted) (ap (λ (x : Site). Ok x) (made_is form pc s is.pc_is is.kind_is))
 
     -- ---- the sites of an instruction
 

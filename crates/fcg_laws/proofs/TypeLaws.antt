@@ -1,25 +1,23 @@
 -- Names of types: the type's own, its superclass's, its interfaces'. What is read is spelled so, and back.
-use Rattle.std.proofs.Common.{◌≡◌, ℕ, ◌+◌, ◌^◌, ◌≤◌, ◌<◌, true, false, eqb, ltb, List, [], ◌∷◌, ◌++◌, length, Option, Some, None, refl, sym, subst, ◌∙◌, inl, inr, arith}
+use Rattle.std.proofs.Common.{◌≡◌, ℕ, ◌+◌, ◌^◌, ◌≤◌, ◌<◌, false, eqb, List, [], ◌∷◌, ◌++◌, length, Option, Some, None, refl, sym, subst, ◌∙◌, inl, inr, arith}
 use Rattle.std.specs.Prelude.{Ok}
 use Rattle.std.specs.List.{flat_map, AllByRecursion, AllZip}
-use Rattle.std.proofs.lemmas.Bool.{ltb-true, lt-ltb, eqb-true}
+use Rattle.std.proofs.lemmas.Bool.{eqb-true}
 use Rattle.std.proofs.lemmas.Bool.Decides.{nat_tests}
-use Rattle.fcg_grammar.specs.Reading.{◌>>=◌, unless_broken}
 use Rattle.fcg_grammar.specs.Spell.{IsBytes, u2}
-use Rattle.fcg_grammar.proofs.LawLemmas.{bind_ok, chosen, kept_ok}
+use Rattle.fcg_grammar.proofs.LawLemmas.{bind_ok, chosen}
 use Rattle.fcg_grammar.proofs.Standing.{Stands, Stands-then, ok_is}
 use Rattle.fcg_grammar.proofs.RowLaws.{FoundRow, ReadRow, rows_found, rows_only}
-use Rattle.fcg_views.specs.declared.fault.ClassRule.TheVariants.{EmptyName}
 use Rattle.fcg_views.specs.ClassFile.{Constant, Utf8, Named}
 use Rattle.fcg_views.specs.Constants.{NamesUtf8}
 use Rattle.fcg_views.specs.Reads.{NamesType, NamesSuper}
-use Rattle.fcg_views.specs.Breaks.Fault.{fault, at_place}
 use Rattle.fcg_views.specs.Breaks.Number.{u2_at}
-use Rattle.fcg_views.specs.Breaks.Pool.{Entries, name_of, text_of}
+use Rattle.fcg_views.specs.Breaks.Pool.{Entries}
 use Rattle.fcg_views.specs.Breaks.Class.{type_at, super_at, interface_at, interfaces_at}
 use Rattle.fcg_laws.proofs.Places.{u2_found, u2_only}
 use Rattle.fcg_laws.specs.Tables.{Holds}
-use Rattle.fcg_laws.proofs.NameLaws.{class_name_found, class_name_only, at_ok}
+use Rattle.fcg_views.specs.Breaks.Names.{type_of}
+use Rattle.fcg_laws.proofs.TypeNameLaws.{type_of_found, type_of_only}
 
 above_zero : (a b : ℕ) → a ≡ b → eqb a 0 ≡ false → 0 < b
 above_zero a b e n = grind (arith, nat_tests)
@@ -31,7 +29,7 @@ some_utf8 x = Some (Utf8 x)
 abbrev some_class : ℕ → Option Constant
 some_class x = Some (Named 7 x)
 
-utf8_one : (cs : List Constant) (i : ℕ) (x y : List ℕ) → NamesUtf8 cs i x → NamesUtf8 cs i y → x ≡ y
+pub utf8_one : (cs : List Constant) (i : ℕ) (x y : List ℕ) → NamesUtf8 cs i x → NamesUtf8 cs i y → x ≡ y
 utf8_one cs i x y p q = let same : some_utf8 x ≡ some_utf8 y = sym p ∙ q in cc
 
 type_one : (cs : List Constant) (i : ℕ) (x y : List ℕ) → NamesType cs i x → NamesType cs i y → x ≡ y
@@ -67,21 +65,16 @@ module _ (pool : Entries) (fits : IsBytes pool.bytes) (constants : List Constant
   pub type_found : (at : ℕ) (name : List ℕ) → type_at pool at ≡ Ok name → FoundType at name
   unfolding type_at
   type_found at name e =
-      let a = bind_ok (u2_at pool.bytes at 0) _ name e in
-      let b = bind_ok (at_place at a.0 (name_of pool a.0 >>= text_of pool)) _ name a.2 in
-      let c = bind_ok (unless_broken (ltb 0 (length b.0)) (fault at 0 EmptyName)) _ name b.2 in
+      let a = bind_ok (u2_at pool.bytes at 0) (type_of pool at) name e in
       let n = u2_found pool.bytes at 0 a.0 fits a.1 in
-      let filled : 0 < length b.0 = ltb-true _ _ (kept_ok _ _ c.0 c.1) in
-      let named = class_name_found pool constants holds a.0 b.0 (at_ok at a.0 (name_of pool a.0 >>= text_of pool) b.0 b.1) in
-      subst (λ (x : List ℕ). FoundType at x) (ok_is b.0 name c.2) (record { index = a.0; read_is = a.1; stands = n.0; named = (n.1, named, filled) })
+      let t = type_of_found pool constants holds at a.0 name a.2 in
+      record { index = a.0; read_is = a.1; stands = n.0; named = (n.1, t.0, t.1) }
 
   pub type_only : (at index : ℕ) (name rest : List ℕ) (after : ℕ) → NamesType constants index name → Stands pool.bytes at (u2 index ++ rest) after → (type_at pool at ≡ Ok name) × Stands pool.bytes (at + 2) rest after
   unfolding type_at
   type_only at index name rest after is s =
       let n = u2_only pool.bytes at 0 index rest after is.0 s in
-      let named = class_name_only pool constants holds index name is.1 in
-      let filled : ltb 0 (length name) ≡ true = lt-ltb _ _ is.2 in
-      (rw (n.0, named, filled) refl, n.1)
+      (rw n.0 (type_of_only pool constants holds at index name is.1 is.2), n.1)
 
   pub record FoundSuper (at : ℕ) (name : Option (List ℕ)) : Type 0 where
     pub index : ℕ

@@ -1,16 +1,17 @@
 -- The view of a class file is valid.
 use Rattle.std.proofs.Common.{◌≡◌, ℕ, zero, suc, ◌^◌, ◌<◌, List, [], ◌∷◌, ◌++◌, length, Option, Some, None, refl, sym, ap, subst, inl, inr, ◌+◌, arith}
 use Rattle.std.specs.List.{All, AllByRecursion, AllZip}
-use Rattle.std.proofs.lemmas.List.Elements.{All-nil}
 use Rattle.fcg_views.specs.declared.view.View.{View}
 use Rattle.fcg_views.specs.declared.view.Field.{Field}
 use Rattle.fcg_views.specs.declared.view.Method.{Method}
+use Rattle.fcg_views.specs.declared.view.Ref.{Ref}
 use Rattle.fcg_views.specs.declared.view.Site.{Site}
-use Rattle.fcg_views.specs.ClassFile.{Constant, Utf8, slots, Attribute, MethodInfo}
-use Rattle.fcg_views.specs.Constants.{NamesUtf8}
-use Rattle.fcg_views.specs.Reads.{NamesType, NamesSuper, Fits, HasSites, IsMethodOf, Reads}
+use Rattle.fcg_views.specs.ClassFile.{Constant, Utf8, slots, Attribute, MemberInfo, ClassFile}
+use Rattle.fcg_views.specs.Constants.{NamesUtf8, NamesReference}
+use Rattle.fcg_views.specs.Reads.{NamesType, NamesSuper, Fits, HasSites, IsFieldOf, IsMethodOf, IsViewOf, Reads}
 use Rattle.fcg_views.specs.Instructions.{Instruction, Plain, TableSwitch, LookupSwitch, Widened, instruction}
-use Rattle.fcg_views.specs.Sites.{SiteForm, site_form, IsSite, AreFormed, AreSitesOf, AreSites}
+use Rattle.fcg_views.specs.Sites as sites
+use Rattle.fcg_views.specs.Sites.{Named, SiteForm, site_form, IsNamed, IsSite, AreFormed, AreSitesOf, AreSites}
 use Rattle.fcg_laws.proofs.KeptLaws.{at_slot, all_slots}
 use Rattle.fcg_laws.proofs.WordLaws.{methods_distinct}
 use Rattle.fcg_views.specs.Valid.{IsShort, IsTable, IsShortOrNone, HasShortNames, IsValidField, IsValidMethod, IsValid}
@@ -48,10 +49,19 @@ module _ (cs : List Constant) (fit : AllByRecursion Fits cs) where
   short_super i (Some name) is = short_type i name is.1
 
   -- the sites that the constants of the pool name have short names
+  short_reference : (tag index : ℕ) (owner name desc : List ℕ) → NamesReference cs index tag owner name desc → IsShort owner × IsShort name × IsShort desc
+  short_reference tag index owner name desc (i, j, pair, class, (n, d, member, name_is, desc_is)) = (short class.0 owner class.2, short n name name_is, short d desc desc_is)
+
+  short_empty : (text : List ℕ) → text ≡ [] → IsShort text
+  short_empty text is = let none : length text ≡ 0 = ap length is in omega arith
+
+  short_target : (named : Named) (index : ℕ) (r : Ref) → IsNamed cs named index r → IsShort r.owner × IsShort r.name × IsShort r.desc
+  short_target (sites.Named.Method tags) index r is = short_reference is.tag index r.owner r.name r.desc is.named
+  short_target sites.Named.Field index r is = short_reference is.tag index r.owner r.name r.desc is.named
+  short_target sites.Named.Class index r is = (short is.named.0 r.owner is.named.2, short_empty r.name is.name, short_empty r.desc is.desc)
+
   short_site : (form : SiteForm) (pc index : ℕ) (s : Site) → IsSite cs form pc index s → HasShortNames s
-  short_site form pc index s is =
-      let (i, j, pair, class, (n, d, member, name, desc)) = is.named in
-      (short class.0 s.target.owner class.2, short n s.target.name name, short d s.target.desc desc)
+  short_site form pc index s is = short_target form.named index s.target is.target
 
   short_formed : (form : Option SiteForm) (pc : ℕ) (operands : List ℕ) (sites : List Site) → AreFormed cs form pc operands sites → AllByRecursion HasShortNames sites
   short_formed None pc operands sites is = subst (λ (l : List Site). AllByRecursion HasShortNames l) (sym is) tt
@@ -80,21 +90,25 @@ module _ (cs : List Constant) (fit : AllByRecursion Fits cs) where
   short_in (a ∷ more) sites (inl (other, has)) = short_in more sites has
   short_in (a ∷ more) sites (inr (code, others)) = short_sites 0 code.code_is.instructions sites code.code_is.sites_are
 
-  valid_method : (c : MethodInfo) (m : Method) → IsMethodOf cs c m → IsValidMethod m
-  valid_method c m is = (short c.name m.name is.name, short c.desc m.desc is.desc, each_all HasShortNames m.sites (short_in c.attributes m.sites is.sites))
+  valid_method : (c : MemberInfo) (m : Method) → IsMethodOf cs c m → IsValidMethod m
+  valid_method c m is = (short c.name m.name is.declared.name_is, short c.desc m.desc is.declared.desc_is, each_all HasShortNames m.sites (short_in c.attributes m.sites is.sites))
 
-pub reads_valid : (bytes : List ℕ) (v : View) → Reads bytes v → IsValid v
-reads_valid bytes v r =
-    let c = r.file in
-    let is = r.view in
+  valid_field : (c : MemberInfo) (f : Field) → IsFieldOf cs c f → IsValidField f
+  valid_field c f is = (short c.name f.name is.declared.name_is, short c.desc f.desc is.declared.desc_is)
+
+view_valid : (c : ClassFile) (v : View) → IsViewOf c v → IsValid v
+view_valid c v is =
     let pool : List Constant = c.pool in
     let fit = is.pool.fit in
     record {
       name = short_type pool fit c.this v.name is.name;
       superclass = short_super pool fit c.super v.superclass is.super;
       interfaces = table_is (NamesType pool) IsShort (short_type pool fit) c.interfaces v.interfaces is.few_interfaces is.interfaces;
-      fields = subst (λ (f : List Field). IsTable IsValidField f) (sym is.fields) (omega arith, All-nil IsValidField);
+      fields = table_is (IsFieldOf pool) IsValidField (valid_field pool fit) c.fields v.fields is.few_fields is.fields;
       methods = table_is (IsMethodOf pool) IsValidMethod (valid_method pool fit) c.methods v.methods is.few_methods is.methods;
       distinct = methods_distinct v.methods is.distinct;
       few_sites = is.few_sites;
     }
+
+pub reads_valid : (bytes : List ℕ) (v : View) → Reads bytes (Some v) → IsValid v
+reads_valid bytes v r = subst IsValid (sym r.shown.1) (view_valid r.file r.view r.is)

@@ -10,7 +10,7 @@ use Rattle.fcg_views.specs.declared.view.Site.{Site}
 use Rattle.fcg_views.specs.declared.code.CodeRule.{CodeRule}
 use Rattle.fcg_views.specs.declared.fault.PoolFault.{PoolFault}
 use Rattle.fcg_views.specs.declared.fault.ClassFault.{ClassFault}
-use Rattle.fcg_views.specs.ClassFile.{Constant, constant, unusable, slots, MethodInfo, method_info}
+use Rattle.fcg_views.specs.ClassFile.{Constant, constant, unusable, slots, MemberInfo, member_info}
 use Rattle.fcg_views.specs.Reads.{Fits, IsMethodOf}
 use Rattle.fcg_views.specs.Breaks.Words.{is_alike}
 use Rattle.fcg_views.specs.Breaks.Number as class
@@ -41,7 +41,7 @@ pub data BrokenPool (bytes : List ℕ) (at : ℕ) (f : PoolFault) : Type 0 where
 -- the first fault of the methods is their count's, or that of a method after some that stand there, no two alike
 pub data BrokenMethods (pool : Entries) (constants : List Constant) (at : ℕ) (f : ClassFault) : Type 0 where
   InCount : class.u2_at pool.bytes at 0 ≡ Err f → BrokenMethods pool constants at f
-  InMethod : (count : ℕ) (before : List MethodInfo) (earlier : List Method) (place : ℕ) → Fills pool.bytes at (u2 count ++ flat_map method_info before) place → length before < count → AllZip (IsMethodOf constants) before earlier → IsDistinct is_alike earlier → method_at pool (length before) (record { at = place; earlier = earlier }) ≡ Err f → BrokenMethods pool constants at f
+  InMethod : (count : ℕ) (before : List MemberInfo) (earlier : List Method) (place : ℕ) → Fills pool.bytes at (u2 count ++ flat_map member_info before) place → length before < count → AllZip (IsMethodOf constants) before earlier → IsDistinct is_alike earlier → method_at pool (length before) (record { at = place; earlier = earlier }) ≡ Err f → BrokenMethods pool constants at f
 
 -- the first fault of a code is that of an instruction after some that stand there
 pub record BrokenCode (code : List ℕ) (f : ℕ × CodeRule) : Type 0 where

@@ -1,5 +1,5 @@
 //! Laws of the definitions.
-ghost use Rattle.std.specs.Prelude.{◌≡◌, ◌↔◌, ℕ, ◌<◌, ◌≤◌, List, Option, Ok, Err, count_by, is_some, nat_lt, if◌then◌else◌};
+ghost use Rattle.std.specs.Prelude.{◌≡◌, ◌↔◌, ℕ, ◌<◌, ◌≤◌, List, Option, Some, Ok, Err, count_by, is_some, nat_lt, if◌then◌else◌};
 ghost use Rattle.fcg_grammar.specs.Rows.{each};
 ghost use Rattle.fcg_grammar.specs.Spell.{IsBytes};
 ghost use Rattle.fcg_grammar.specs.First.{BreaksFirst, AllKept};
@@ -19,14 +19,14 @@ ghost use Rattle.fcg_views.specs.Breaks.Code.{sites_of};
 ghost use Rattle.fcg_laws.specs.Tables.{Holds};
 ghost use Rattle.fcg_laws.specs.Faults.{BrokenPool, BrokenMethods, BrokenCode, BrokenSites};
 
-/// Each string of bytes is a class file with one view, or has one first fault, and never both.
+/// Each string of bytes is a class file, with one view or, as a module, none, or has one first fault, and never both.
 pub fn one_verdict()
     ensures { (bytes : List ℕ) → IsBytes bytes → Verdict bytes }
 {}
 
 /// The view of a class file is valid.
 pub fn class_files_are_valid()
-    ensures { (bytes : List ℕ) (v : View) → Reads bytes v → IsValid v }
+    ensures { (bytes : List ℕ) (v : View) → Reads bytes (Some v) → IsValid v }
 {}
 
 /// The check of a pool's own indexes finds nothing only where each slot keeps its rule, and else the first slot that

@@ -6,14 +6,14 @@ use Rattle.fcg_views.specs.declared.descriptor.DescSpan.{DescSpan}
 use Rattle.fcg_views.specs.declared.descriptor.DescFault.{DescFault}
 use Rattle.fcg_views.specs.declared.descriptor.DescState.{DescState}
 use Rattle.fcg_views.specs.declared.descriptor.DescState.TheVariants.{Start, Parameters, Array, Name, Returned, ReturnedArray, ReturnedName, Done}
-use Rattle.fcg_views.specs.DescSteps.{is_letter, letter_units, taken, step, closed, goes, scan_from, scan, ended, told, descriptor_of, fault_at}
-use Rattle.fcg_views.specs.Descriptor.{MethodType, IsMethodType, spell, IsFront, BreaksAt, Spans, FaultAt}
+use Rattle.fcg_views.specs.DescSteps.{is_letter, letter_units, taken, step, closed, goes, scan_from, ended, told, descriptor_of, fault_at}
+use Rattle.fcg_views.specs.Descriptor.{IsDescriptor, IsFront, BreaksAt, Spans, FaultOf, FaultAt}
 use Rattle.fcg_views.proofs.DescRuns.{run, run-append, run_spelled, taken_fits}
 use Rattle.fcg_views.proofs.DescFound.{found, run_none}
 use Rattle.std.proofs.lemmas.List.{take_at, append-nil}
 
 -- a state that has room for what was begun
-abbrev Fine : DescState → Type 0
+abbrev pub Fine : DescState → Type 0
 Fine Start = Unit {0}
 Fine (Parameters c u) = Unit {0}
 Fine (Array c u d) = u + 1 ≤ 255
@@ -62,13 +62,13 @@ step_fine (ReturnedName s filled) at b fine =
 step_fine (Done s) at b fine = tt
 
 -- each state has an end
-abbrev finish : DescState → List ℕ
+abbrev pub finish : DescState → List ℕ
 finish Start = 40 ∷ 41 ∷ 86 ∷ []
 finish (Parameters c u) = 41 ∷ 86 ∷ []
 finish (Array c u d) = 73 ∷ 41 ∷ 86 ∷ []
 finish (Name c u true) = 59 ∷ 41 ∷ 86 ∷ []
 finish (Name c u false) = 97 ∷ 59 ∷ 41 ∷ 86 ∷ []
-finish (Returned s) = 86 ∷ []
+finish (Returned s) = 73 ∷ []
 finish (ReturnedArray s d) = 73 ∷ []
 finish (ReturnedName s true) = 59 ∷ []
 finish (ReturnedName s false) = 97 ∷ 59 ∷ []
@@ -146,103 +146,129 @@ lives at end s (b ∷ bs) t whole fine e = by (step s at b) refl e (step_fine s 
 
 -- ---- the law
 
--- bytes that lead to a state are the front of a descriptor
-front_of : (text pre more : List ℕ) (n : ℕ) (s : DescState) → text ≡ pre ++ more → length pre ≡ n → run n (Some Start) pre ≡ Some s → Fine s → IsFront text n
-front_of text pre more n s parts len led fine =
-    let stop : ℕ = n + length (finish s) in
-    let ends = finishes stop s fine in
-    let long : length (pre ++ finish s) ≡ stop = length-append pre (finish s) ∙ ap (λ (k : ℕ). k + length (finish s)) len in
-    let here : stop - length (finish s) ≡ n = omega arith in
-    let led_so : run (stop - length (finish s)) (Some Start) pre ≡ Some s = ap (λ (k : ℕ). run k (Some Start) pre) here ∙ led in
-    let done : run stop (Some Start) (pre ++ finish s) ≡ Some (Done ends.0) = run-append stop (Some Start) pre (finish s) ∙ ap (λ (o : Option DescState). run stop o (finish s)) led_so ∙ ends.1 in
-    let spans : Spans (pre ++ finish s) ends.0 = found stop ends.0 (pre ++ finish s) Start (omega arith) tt done long in
-    let taken_is : take n text ≡ pre = ap (take n) parts ∙ take_at pre more n len in
-    record { type = spans.type; kept = spans.kept; rest = finish s; front = spans.spelled ∙ ap (λ (x : List ℕ). x ++ finish s) (sym taken_is) }
+-- a kind of text: those that are read from a first state on to the end, and begin as they may
+pub record IsReadFrom (Is Begins : List ℕ → Type 0) (start : DescState) : Type 0 where
+  pub fine : Fine start
+  pub is : (text : List ℕ) (span : DescSpan) → Begins text → run (length text) (Some start) text ≡ Some (Done span) → Is text
+  pub leads : (text : List ℕ) → Is text → (span : DescSpan) × (run (length text) (Some start) text ≡ Some (Done span))
+  -- what was begun so can be ended
+  pub begins : (n : ℕ) (pre more : List ℕ) (s : DescState) → run n (Some start) pre ≡ Some s → Begins (pre ++ more) → Begins (pre ++ finish s)
 
-no_way : (front : List ℕ) (b : ℕ) (more : List ℕ) (n : ℕ) (s : DescState) (span : DescSpan) → length front ≡ n → run n (Some Start) front ≡ Some s → step s n b ≡ None → run (length (front ++ b ∷ more)) (Some Start) (front ++ b ∷ more) ≡ Some (Done span) → ⊥
-no_way front b more n s span len led none e =
+no_way : (start : DescState) (front : List ℕ) (b : ℕ) (more : List ℕ) (n : ℕ) (s : DescState) (span : DescSpan) → length front ≡ n → run n (Some start) front ≡ Some s → step s n b ≡ None → run (length (front ++ b ∷ more)) (Some start) (front ++ b ∷ more) ≡ Some (Done span) → ⊥
+no_way start front b more n s span len led none e =
     let end : ℕ = length (front ++ b ∷ more) in
     let long : end ≡ length front + suc (length more) = length-append front (b ∷ more) in
     let before : end - suc (length more) ≡ n = omega arith in
-    let led_so : run (end - suc (length more)) (Some Start) front ≡ Some s = ap (λ (k : ℕ). run k (Some Start) front) before ∙ led in
+    let led_so : run (end - suc (length more)) (Some start) front ≡ Some s = ap (λ (k : ℕ). run k (Some start) front) before ∙ led in
     let none_so : step s (end - suc (length more)) b ≡ None = ap (λ (k : ℕ). step s k b) before ∙ none in
-    let stuck : run end (Some Start) (front ++ b ∷ more) ≡ run end None more =
-    run-append end (Some Start) front (b ∷ more) ∙ ap (λ (o : Option DescState). run end o (b ∷ more)) led_so ∙ ap (λ (o : Option DescState). run end o more) none_so in
+    let stuck : run end (Some start) (front ++ b ∷ more) ≡ run end None more =
+    run-append end (Some start) front (b ∷ more) ∙ ap (λ (o : Option DescState). run end o (b ∷ more)) led_so ∙ ap (λ (o : Option DescState). run end o more) none_so in
     run_none end span more (sym stuck ∙ e)
-
--- a descriptor leads to the end, by its own length
-whole_way : (text : List ℕ) (m : MethodType) → IsMethodType m → spell m ≡ text → (span : DescSpan) × (run (length text) (Some Start) text ≡ Some (Done span))
-whole_way text m kept e =
-    let r = run_spelled (length text) m kept in
-    (r.0, ap (run (length text) (Some Start)) (sym e) ∙ r.1)
 
 take_past : (xs : List ℕ) (b : ℕ) (rest : List ℕ) (j k : ℕ) → k ≡ length xs + suc j → take k (xs ++ b ∷ rest) ≡ xs ++ b ∷ take j rest
 take_past [] b rest j k e = let n : k ≡ suc j = omega arith in rw n refl
 take_past (x ∷ xs) b rest j zero e = absurd (omega arith)
 take_past (x ∷ xs) b rest j (suc k) e = ap (λ (ys : List ℕ). x ∷ ys) (take_past xs b rest j k (omega arith))
 
-breaks_where_it_dies : (text : List ℕ) (n : ℕ) → Dies 0 Start text n → BreaksAt text n
-breaks_where_it_dies text n d =
-    let p = d.place in
-    let len : length d.front ≡ n = omega arith in
-    record {
-      within = (let l : length text ≡ length d.front + suc (length d.rest) = ap length d.parts ∙ length-append d.front (d.b ∷ d.rest) in omega arith);
-      front = front_of text d.front (d.b ∷ d.rest) n d.last d.parts len d.led d.fine;
-      longest = longest;
-      none = λ m kept e. (let w = whole_way (d.front ++ d.b ∷ d.rest) m kept (e ∙ d.parts) in no_way d.front d.b d.rest n d.last w.0 len d.led d.none w.1);
-    }
-  where
-    longest : (k : ℕ) → n < k → k ≤ length text → IsFront text k → ⊥
-    longest k lt within f =
-        let j : ℕ = k - suc n in
-        let p = d.place in
-        let len : length d.front ≡ n = omega arith in
-        let at : k ≡ length d.front + suc j = omega arith in
-        let cut : take k text ≡ d.front ++ d.b ∷ take j d.rest = ap (take k) d.parts ∙ take_past d.front d.b d.rest j k at in
-        let whole : spell f.type ≡ d.front ++ d.b ∷ (take j d.rest ++ f.rest) = f.front ∙ ap (λ (x : List ℕ). x ++ f.rest) cut ∙ append_assoc d.front (d.b ∷ take j d.rest) f.rest in
-        let w = whole_way (d.front ++ d.b ∷ (take j d.rest ++ f.rest)) f.type f.kept whole in
-        no_way d.front d.b (take j d.rest ++ f.rest) n d.last w.0 len d.led d.none w.1
+module _ (Is Begins : List ℕ → Type 0) (start : DescState) (kind : IsReadFrom Is Begins start) where
+  -- bytes that lead to a state are the front of such a text
+  front_of : (text pre more : List ℕ) (n : ℕ) (s : DescState) → Begins text → text ≡ pre ++ more → length pre ≡ n → run n (Some start) pre ≡ Some s → Fine s → IsFront Is text n
+  front_of text pre more n s begun parts len led fine =
+      let stop : ℕ = n + length (finish s) in
+      let ends = finishes stop s fine in
+      let long : length (pre ++ finish s) ≡ stop = length-append pre (finish s) ∙ ap (λ (k : ℕ). k + length (finish s)) len in
+      let here : stop - length (finish s) ≡ n = omega arith in
+      let led_so : run (stop - length (finish s)) (Some start) pre ≡ Some s = ap (λ (k : ℕ). run k (Some start) pre) here ∙ led in
+      let done : run stop (Some start) (pre ++ finish s) ≡ Some (Done ends.0) = run-append stop (Some start) pre (finish s) ∙ ap (λ (o : Option DescState). run stop o (finish s)) led_so ∙ ends.1 in
+      let begun_so : Begins (pre ++ finish s) = kind.begins n pre more s led (subst Begins parts begun) in
+      let whole : Is (pre ++ finish s) = kind.is (pre ++ finish s) ends.0 begun_so (ap (λ (k : ℕ). run k (Some start) (pre ++ finish s)) long ∙ done) in
+      let taken_is : take n text ≡ pre = ap (take n) parts ∙ take_at pre more n len in
+      record { rest = finish s; whole = subst (λ (x : List ℕ). Is (x ++ finish s)) (sym taken_is) whole }
 
-breaks_at_the_end : (text : List ℕ) (s : DescState) → ((span : DescSpan) → s ≡ Done span → ⊥) → Lives (length text) Start text s → BreaksAt text (length text)
-breaks_at_the_end text s open_ l = record {
-  within = omega arith;
-  front = front_of text text [] (length text) s (sym (append-nil text)) refl l.led l.fine;
-  longest = λ k lt within f. absurd (omega arith);
-  none = λ m kept e. (let w = whole_way text m kept e in let both : Some s ≡ Some (Done w.0) = sym l.led ∙ w.1 in open_ w.0 cc);
+  breaks_where_it_dies : (text : List ℕ) (n : ℕ) → Begins text → Dies 0 start text n → BreaksAt Is text n
+  breaks_where_it_dies text n begun d =
+      let p = d.place in
+      let len : length d.front ≡ n = omega arith in
+      record {
+        within = (let l : length text ≡ length d.front + suc (length d.rest) = ap length d.parts ∙ length-append d.front (d.b ∷ d.rest) in omega arith);
+        front = front_of text d.front (d.b ∷ d.rest) n d.last begun d.parts len d.led d.fine;
+        longest = longest;
+        none = λ is. (let w = kind.leads (d.front ++ d.b ∷ d.rest) (subst Is d.parts is) in no_way start d.front d.b d.rest n d.last w.0 len d.led d.none w.1);
+      }
+    where
+      longest : (k : ℕ) → n < k → k ≤ length text → IsFront Is text k → ⊥
+      longest k lt within f =
+          let j : ℕ = k - suc n in
+          let p = d.place in
+          let len : length d.front ≡ n = omega arith in
+          let at : k ≡ length d.front + suc j = omega arith in
+          let cut : take k text ≡ d.front ++ d.b ∷ take j d.rest = ap (take k) d.parts ∙ take_past d.front d.b d.rest j k at in
+          let whole : take k text ++ f.rest ≡ d.front ++ d.b ∷ (take j d.rest ++ f.rest) = ap (λ (x : List ℕ). x ++ f.rest) cut ∙ append_assoc d.front (d.b ∷ take j d.rest) f.rest in
+          let w = kind.leads (d.front ++ d.b ∷ (take j d.rest ++ f.rest)) (subst Is whole f.whole) in
+          no_way start d.front d.b (take j d.rest ++ f.rest) n d.last w.0 len d.led d.none w.1
+
+  breaks_at_the_end : (text : List ℕ) (s : DescState) → Begins text → ((span : DescSpan) → s ≡ Done span → ⊥) → Lives (length text) start text s → BreaksAt Is text (length text)
+  breaks_at_the_end text s begun open_ l = record {
+    within = omega arith;
+    front = front_of text text [] (length text) s begun (sym (append-nil text)) refl l.led l.fine;
+    longest = λ k lt within f. absurd (omega arith);
+    none = λ is. (let w = kind.leads text is in let both : Some s ≡ Some (Done w.0) = sym l.led ∙ w.1 in open_ w.0 cc);
+  }
+
+  -- what the scan of a text tells is right
+  abbrev pub Scanned : List ℕ → Result DescSpan DescFault → Type 0
+  Scanned text r = MatchResult r (λ span. run (length text) (Some start) text ≡ Some (Done span)) (FaultOf Is text)
+
+  at_end : (text : List ℕ) (s : DescState) → Begins text → ((span : DescSpan) → s ≡ Done span → ⊥) → Lives (length text) start text s → FaultOf Is text (fault_at (length text))
+  at_end text s begun open_ l = (length text, breaks_at_the_end text s begun open_ l, refl)
+
+  ended_right : (text : List ℕ) (s : DescState) → Begins text → Lives (length text) start text s → Scanned text (ended s (length text))
+  ended_right text (Done span) begun l = l.led
+  ended_right text Start begun l = at_end text Start begun (λ span x. cc) l
+  ended_right text (Parameters c u) begun l = at_end text (Parameters c u) begun (λ span x. cc) l
+  ended_right text (Array c u d) begun l = at_end text (Array c u d) begun (λ span x. cc) l
+  ended_right text (Name c u filled) begun l = at_end text (Name c u filled) begun (λ span x. cc) l
+  ended_right text (Returned s) begun l = at_end text (Returned s) begun (λ span x. cc) l
+  ended_right text (ReturnedArray s d) begun l = at_end text (ReturnedArray s d) begun (λ span x. cc) l
+  ended_right text (ReturnedName s filled) begun l = at_end text (ReturnedName s filled) begun (λ span x. cc) l
+
+  pub scanned : (text : List ℕ) → Begins text → Scanned text (told (length text) (scan_from 0 start text))
+  scanned text begun = by (scan_from 0 start text) refl
+    where
+      by : (r : Result DescState ℕ) → scan_from 0 start text ≡ r → Scanned text (told (length text) r)
+      by (Ok s) is = ended_right text s begun (lives 0 (length text) start text s (zero-add (length text)) kind.fine is)
+      by (Err n) is = (n, breaks_where_it_dies text n begun (dies 0 start text n kind.fine is), refl)
+
+-- ---- method descriptors
+
+spans : (text : List ℕ) (span : DescSpan) → run (length text) (Some Start) text ≡ Some (Done span) → Spans text span
+spans text span e = found (length text) span text Start (omega arith) tt e refl
+
+abbrev Any : List ℕ → Type 0
+Any text = Unit {0}
+
+method_kind : IsReadFrom IsDescriptor Any Start
+method_kind = record {
+  fine = tt;
+  is = λ text span begun e. (let s = spans text span e in (s.type, s.kept, s.spelled));
+  leads = λ text is. (let r = run_spelled (length text) is.0 is.1 in (r.0, ap (run (length text) (Some Start)) (sym is.2) ∙ r.1));
+  begins = λ n pre more s led begun. tt;
 }
 
--- what the scan of a text tells is right
 abbrev IsRight : List ℕ → Result DescSpan DescFault → Type 0
 IsRight text r = MatchResult r (Spans text) (FaultAt text)
 
-at_end : (text : List ℕ) (s : DescState) → ((span : DescSpan) → s ≡ Done span → ⊥) → Lives (length text) Start text s → FaultAt text (fault_at (length text))
-at_end text s open_ l = (length text, breaks_at_the_end text s open_ l, refl)
-
-ended_right : (text : List ℕ) (s : DescState) → Lives (length text) Start text s → IsRight text (ended s (length text))
-ended_right text (Done span) l = found (length text) span text Start (omega arith) tt l.led refl
-ended_right text Start l = at_end text Start (λ span x. cc) l
-ended_right text (Parameters c u) l = at_end text (Parameters c u) (λ span x. cc) l
-ended_right text (Array c u d) l = at_end text (Array c u d) (λ span x. cc) l
-ended_right text (Name c u filled) l = at_end text (Name c u filled) (λ span x. cc) l
-ended_right text (Returned s) l = at_end text (Returned s) (λ span x. cc) l
-ended_right text (ReturnedArray s d) l = at_end text (ReturnedArray s d) (λ span x. cc) l
-ended_right text (ReturnedName s filled) l = at_end text (ReturnedName s filled) (λ span x. cc) l
-
 pub told_right : (text : List ℕ) → MatchResult (descriptor_of text) (Spans text) (FaultAt text)
-told_right text = by (scan text) refl
+told_right text = by (descriptor_of text) (scanned IsDescriptor Any Start method_kind text tt)
   where
-    by : (r : Result DescState ℕ) → scan text ≡ r → IsRight text (told (length text) r)
-    by (Ok s) is = ended_right text s (lives 0 (length text) Start text s (zero-add (length text)) tt is)
-    by (Err n) is = (n, breaks_where_it_dies text n (dies 0 Start text n tt is), refl)
+    by : (r : Result DescSpan DescFault) → Scanned IsDescriptor Any Start method_kind text r → IsRight text r
+    by (Ok span) right = spans text span right
+    by (Err fault) right = right
 
--- the same of a result that is what the scan tells
-told_by : (text : List ℕ) (r : Result DescSpan DescFault) (s : Result DescState ℕ) → r ≡ told (length text) s → s ≡ scan text → IsRight text r
-told_by text r s e is = subst (IsRight text) (sym (e ∙ ap (told (length text)) is)) (told_right text)
+pub found_by : (text : List ℕ) (r : Result DescSpan DescFault) → r ≡ descriptor_of text → IfOk r (λ span. Spans text span)
+found_by text (Ok span) e = subst (IsRight text) (sym e) (told_right text)
+found_by text (Err fault) e = tt
 
-pub found_by : (text : List ℕ) (r : Result DescSpan DescFault) (s : Result DescState ℕ) → r ≡ told (length text) s → s ≡ scan text → IfOk r (λ span. Spans text span)
-found_by text (Ok span) s e is = told_by text (Ok span) s e is
-found_by text (Err fault) s e is = tt
-
-pub breaks_by : (text : List ℕ) (r : Result DescSpan DescFault) (s : Result DescState ℕ) → r ≡ told (length text) s → s ≡ scan text → IfErr r (λ fault. FaultAt text fault)
-breaks_by text (Ok span) s e is = tt
-breaks_by text (Err fault) s e is = told_by text (Err fault) s e is
+pub breaks_by : (text : List ℕ) (r : Result DescSpan DescFault) → r ≡ descriptor_of text → IfErr r (λ fault. FaultAt text fault)
+breaks_by text (Ok span) e = tt
+breaks_by text (Err fault) e = subst (IsRight text) (sym e) (told_right text)

@@ -102,7 +102,7 @@ module _ (end : ℕ) where
       let rest = run_parameters (c + 1) (u + units_of t) ts ys kept.1 (omega arith) in
       (rest.0, ap (run end (Some (Parameters c u))) grouped ∙ run_parameter c u t (flat_map spell_field ts ++ 41 ∷ ys) kept.0 (omega arith) ∙ rest.1)
 
-  run_return : (span : DescSpan) (r : Option FieldType) → IsReturn r → run end (Some (Returned span)) (spell_return r) ≡ Some (Done span)
+  pub run_return : (span : DescSpan) (r : Option FieldType) → IsReturn r → run end (Some (Returned span)) (spell_return r) ≡ Some (Done span)
   run_return span None kept = refl
   run_return span (Some t) kept = by t.dims t.item kept.0 kept.1
     where

@@ -5,6 +5,7 @@ pub mod Fault
 pub mod Number
 pub mod Groups
 pub mod Pool
+pub mod Names
 pub mod Instructions
 pub mod Attributes
 pub mod Code

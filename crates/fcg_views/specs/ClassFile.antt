@@ -1,4 +1,4 @@
--- Class files as data, in the structures of JVMS 4.1, and their spelling. Not yet: fields.
+-- Class files as data, in the structures of JVMS 4.1, and their spelling.
 use Rattle.std.specs.Prelude.{ℕ, ◌+◌, List, [], ◌∷◌, ◌++◌, length, Bool, true, false, ◌||◌, Option, Some, None, ◌==◌, if◌then◌else◌}
 use Rattle.std.specs.List.{concat, flat_map}
 use Rattle.fcg_grammar.specs.Spell.{u2, u4}
@@ -85,8 +85,8 @@ pub record Code : Type 0 where
   pub handlers : List (List ℕ)
   pub attributes : List Attribute
 
--- method_info (4.6)
-pub record MethodInfo : Type 0 where
+-- field_info (4.5), method_info (4.6)
+pub record MemberInfo : Type 0 where
   pub flags : ℕ
   pub name : ℕ
   pub desc : ℕ
@@ -101,7 +101,8 @@ pub record ClassFile : Type 0 where
   pub this : ℕ
   pub super : ℕ
   pub interfaces : List ℕ
-  pub methods : List MethodInfo
+  pub fields : List MemberInfo
+  pub methods : List MemberInfo
   pub attributes : List Attribute
 
 abbrev pub info : Constant → List ℕ
@@ -123,8 +124,8 @@ code_info c = concat (
     ∷ u2 (length c.handlers) ∷ flat_map (λ row. row) c.handlers
     ∷ u2 (length c.attributes) ∷ flat_map attribute c.attributes ∷ [])
 
-abbrev pub method_info : MethodInfo → List ℕ
-method_info m = concat (
+abbrev pub member_info : MemberInfo → List ℕ
+member_info m = concat (
     u2 m.flags ∷ u2 m.name ∷ u2 m.desc
     ∷ u2 (length m.attributes) ∷ flat_map attribute m.attributes ∷ [])
 
@@ -141,13 +142,13 @@ abbrev pub slots : List Constant → List (Option Constant)
 slots [] = []
 slots (c ∷ cs) = Some c ∷ (unusable (is_wide c) ++ slots cs)
 
--- The count of the pool is one more than its indexes. The third count from the end is that of the fields.
+-- The count of the pool is one more than its indexes.
 abbrev pub spelling : ClassFile → List ℕ
 spelling c = concat (
     u4 0xcafebabe ∷ u2 c.minor ∷ u2 c.major
     ∷ u2 (1 + length (slots c.pool)) ∷ flat_map constant c.pool
     ∷ u2 c.flags ∷ u2 c.this ∷ u2 c.super
     ∷ u2 (length c.interfaces) ∷ flat_map u2 c.interfaces
-    ∷ u2 0
-    ∷ u2 (length c.methods) ∷ flat_map method_info c.methods
+    ∷ u2 (length c.fields) ∷ flat_map member_info c.fields
+    ∷ u2 (length c.methods) ∷ flat_map member_info c.methods
     ∷ u2 (length c.attributes) ∷ flat_map attribute c.attributes ∷ [])

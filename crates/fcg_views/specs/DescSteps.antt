@@ -1,5 +1,6 @@
--- A method descriptor read byte by byte: a state for each front of a descriptor.
-use Rattle.std.specs.Prelude.{ℕ, length, min, ◌+◌, ◌-◌, ◌^◌, List, [], ◌∷◌, Bool, true, false, is_ok, ◌||◌, ◌==◌, nat_lt, nat_le, Option, Some, None, Result, Ok, Err, if◌then◌else◌}
+-- Descriptors read byte by byte: a state for each front of a method descriptor.
+use Rattle.std.specs.Prelude.{ℕ, length, min, ◌+◌, ◌-◌, ◌^◌, List, [], ◌∷◌, Bool, true, false, not, nat_eq, ◌&&◌, is_ok, ◌||◌, ◌==◌, nat_lt, nat_le, Option, Some, None, Result, Ok, Err, if◌then◌else◌}
+use Rattle.std.specs.Cmp.Lexicographic.{pointwise}
 use Rattle.fcg_views.specs.declared.descriptor.DescSpan.{DescSpan}
 use Rattle.fcg_views.specs.declared.descriptor.DescFault.{DescFault}
 use Rattle.fcg_views.specs.declared.descriptor.DescState.{DescState}
@@ -93,6 +94,32 @@ told end (Err at) = Err (fault_at at)
 abbrev pub descriptor_of : List ℕ → Result DescSpan DescFault
 descriptor_of text = told (length text) (scan text)
 
+-- a field descriptor is read as a result, after no parameters
+abbrev pub no_parameters : DescSpan
+no_parameters = record { parameters = 0; units = 0; result_at = 0 }
+
+-- whether a text begins with `V`
+abbrev pub begins_with_void : List ℕ → Bool
+begins_with_void [] = false
+begins_with_void (b ∷ bs) = b == 86
+
+-- only whether a text was read
+abbrev pub without_span : Result DescSpan DescFault → Result (Unit {0}) DescFault
+without_span (Ok span) = Ok tt
+without_span (Err fault) = Err fault
+
+-- what a text says, as a field descriptor: `V` is a result, and no field
+abbrev pub field_descriptor_of : List ℕ → Result (Unit {0}) DescFault
+field_descriptor_of text =
+    if begins_with_void text then Err (fault_at 0) else without_span (told (length text) (scan_from 0 (Returned no_parameters) text))
+
 -- whether the text is a method descriptor
 abbrev pub is_descriptor : List ℕ → Bool
 is_descriptor text = is_ok (descriptor_of text)
+
+-- whether the text is a field descriptor: it can stand after `()` in a method descriptor, and isn't `V`
+abbrev pub is_void : List ℕ → Bool
+is_void text = pointwise nat_eq text (86 ∷ [])
+
+abbrev pub is_field_descriptor : List ℕ → Bool
+is_field_descriptor text = not (is_void text) && is_descriptor (40 ∷ 41 ∷ text)

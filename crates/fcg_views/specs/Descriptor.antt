@@ -1,4 +1,4 @@
--- Method descriptors (JVMS 4.3.3), with the length of an array and the units of the parameters bounded.
+-- Field and method descriptors (JVMS 4.3.2, 4.3.3), with the length of an array and the units of the parameters bounded.
 use Rattle.std.specs.Prelude.{◌≡◌, ℕ, zero, suc, ◌+◌, ◌-◌, ◌^◌, ◌≤◌, ◌<◌, min, List, [], ◌∷◌, ◌++◌, length, take, ◌==◌, true, false, Option, Some, None}
 use Rattle.std.specs.List.{flat_map, AllByRecursion}
 use Rattle.fcg_views.specs.declared.descriptor.DescSpan.{DescSpan}
@@ -71,23 +71,37 @@ pub record IsMethodType (m : MethodType) : Type 0 where
   pub few : units m.parameters ≤ 255
   pub returned : IsReturn m.returned
 
--- the first n bytes are the front of some method descriptor
-pub record IsFront (text : List ℕ) (n : ℕ) : Type 0 where
-  pub type : MethodType
-  pub kept : IsMethodType type
-  pub rest : List ℕ
-  pub front : spell type ≡ take n text ++ rest
+-- the text is a method descriptor
+abbrev pub IsDescriptor : List ℕ → Type 0
+IsDescriptor text = (type : MethodType) × IsMethodType type × (spell type ≡ text)
 
--- no descriptor, and the longest such front
-pub record BreaksAt (text : List ℕ) (n : ℕ) : Type 0 where
+-- the text is a field descriptor
+abbrev pub IsFieldDescriptor : List ℕ → Type 0
+IsFieldDescriptor text = (type : FieldType) × IsFieldType type × (spell_field type ≡ text)
+
+-- the first n bytes are the front of some text of a kind
+pub record IsFront (Is : List ℕ → Type 0) (text : List ℕ) (n : ℕ) : Type 0 where
+  pub rest : List ℕ
+  pub whole : Is (take n text ++ rest)
+
+-- no text of the kind, and the longest such front
+pub record BreaksAt (Is : List ℕ → Type 0) (text : List ℕ) (n : ℕ) : Type 0 where
   pub within : n ≤ length text
-  pub front : IsFront text n
-  pub longest : (k : ℕ) → n < k → k ≤ length text → IsFront text k → ⊥
-  pub none : (m : MethodType) → IsMethodType m → spell m ≡ text → ⊥
+  pub front : IsFront Is text n
+  pub longest : (k : ℕ) → n < k → k ≤ length text → IsFront Is text k → ⊥
+  pub none : Is text → ⊥
 
 -- the number that a fault gives of such a text
+abbrev pub FaultOf : (List ℕ → Type 0) → List ℕ → DescFault → Type 0
+FaultOf Is text fault = (n : ℕ) × BreaksAt Is text n × (fault.offset ≡ min n (2 ^ 32 - 1))
+
+-- of a text that is no method descriptor
 abbrev pub FaultAt : List ℕ → DescFault → Type 0
-FaultAt text fault = (n : ℕ) × BreaksAt text n × (fault.offset ≡ min n (2 ^ 32 - 1))
+FaultAt = FaultOf IsDescriptor
+
+-- of a text that is no field descriptor
+abbrev pub FieldFaultAt : List ℕ → DescFault → Type 0
+FieldFaultAt = FaultOf IsFieldDescriptor
 
 -- what a method descriptor says of its parameters
 pub record Spans (text : List ℕ) (span : DescSpan) : Type 0 where
@@ -97,7 +111,3 @@ pub record Spans (text : List ℕ) (span : DescSpan) : Type 0 where
   pub parameters_are : span.parameters ≡ length type.parameters
   pub units_are : span.units ≡ units type.parameters
   pub result_at_is : span.result_at ≡ min (2 + length (flat_map spell_field type.parameters)) (2 ^ 32 - 1)
-
--- the text is a method descriptor
-abbrev pub IsDescriptor : List ℕ → Type 0
-IsDescriptor text = (type : MethodType) × IsMethodType type × (spell type ≡ text)

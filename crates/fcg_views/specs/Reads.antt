@@ -2,12 +2,13 @@
 use Rattle.std.specs.Prelude.{◌≡◌, ◌≢◌, ◌⊎◌, ℕ, ◌+◌, ◌<◌, ◌≤◌, ◌^◌, List, [], ◌∷◌, length, true, codes, Option, Some, None, Err}
 use Rattle.std.specs.List.{flat_map, AllByRecursion, AllPairs, AllZip}
 use Rattle.fcg_views.specs.declared.view.View.{View}
+use Rattle.fcg_views.specs.declared.view.Field.{Field}
 use Rattle.fcg_views.specs.declared.view.Method.{Method}
 use Rattle.fcg_views.specs.declared.view.Site.{Site}
 use Rattle.fcg_views.specs.declared.fault.ClassFault.{ClassFault}
-use Rattle.fcg_views.specs.ClassFile.{Bytes, One, Two, shape_of, is_one_of, Constant, Utf8, Plain, Named, Pair, Handle, tag_of, slots, wants, Attribute, Code, code_info, MethodInfo, ClassFile, spelling}
+use Rattle.fcg_views.specs.ClassFile.{Bytes, One, Two, shape_of, is_one_of, Constant, Utf8, Plain, Named, Pair, Handle, tag_of, slots, wants, Attribute, Code, code_info, MemberInfo, ClassFile, spelling}
 use Rattle.fcg_views.specs.Constants.{constant_at, NamesUtf8, NamesClass}
-use Rattle.fcg_views.specs.Descriptor.{IsDescriptor}
+use Rattle.fcg_views.specs.Descriptor.{IsDescriptor, IsFieldDescriptor}
 use Rattle.fcg_views.specs.Instructions.{Instruction, IsCode}
 use Rattle.fcg_views.specs.Sites.{AreSites}
 use Rattle.fcg_views.specs.Valid.{site_count}
@@ -95,31 +96,40 @@ abbrev pub HasSites : List Constant → List Attribute → List Site → Type 0
 HasSites pool [] sites = sites ≡ []
 HasSites pool (a ∷ more) sites = (IsOther pool a × HasSites pool more sites) ⊎ (IsCodeAttribute pool a sites × AllByRecursion (IsOther pool) more)
 
-pub record IsMethodOf (pool : List Constant) (m : MethodInfo) (v : Method) : Type 0 where
-  pub flags : m.flags < 2 ^ 16
-  pub flags_are : v.flags ≡ m.flags
+-- what a field or a method declares: a name of a byte or more, and a descriptor
+pub record IsDeclared (pool : List Constant) (IsTyped : List ℕ → Type 0) (m : MemberInfo) (flags : ℕ) (name desc : List ℕ) : Type 0 where
+  pub flags_few : m.flags < 2 ^ 16
+  pub flags_are : flags ≡ m.flags
   pub name_index : m.name < 2 ^ 16
-  pub name : NamesUtf8 pool m.name v.name
-  pub filled : 0 < length v.name
+  pub name_is : NamesUtf8 pool m.name name
+  pub filled : 0 < length name
   pub desc_index : m.desc < 2 ^ 16
-  pub desc : NamesUtf8 pool m.desc v.desc
-  pub typed : IsDescriptor v.desc
+  pub desc_is : NamesUtf8 pool m.desc desc
+  pub typed : IsTyped desc
+
+pub record IsFieldOf (pool : List Constant) (m : MemberInfo) (v : Field) : Type 0 where
+  pub declared : IsDeclared pool IsFieldDescriptor m v.flags v.name v.desc
+  pub attributes : ArePassed pool m.attributes
+
+pub record IsMethodOf (pool : List Constant) (m : MemberInfo) (v : Method) : Type 0 where
+  pub declared : IsDeclared pool IsDescriptor m v.flags v.name v.desc
   pub few_attributes : length m.attributes < 2 ^ 16
   pub sites : HasSites pool m.attributes v.sites
 
--- the view of a class file, which is no module
+-- what a class file says, of a type or of a module
 pub record IsViewOf (c : ClassFile) (v : View) : Type 0 where
   pub minor : c.minor < 2 ^ 16
   pub from : 45 ≤ c.major
   pub to : c.major ≤ 65
   pub pool : IsPool c.pool
-  pub type : c.flags < 0x8000
+  pub flags_few : c.flags < 2 ^ 16
   pub flags : v.flags ≡ c.flags
   pub name : NamesType c.pool c.this v.name
   pub super : NamesSuper c.pool c.super v.superclass
   pub few_interfaces : length c.interfaces < 2 ^ 16
   pub interfaces : AllZip (NamesType c.pool) c.interfaces v.interfaces
-  pub fields : v.fields ≡ []
+  pub few_fields : length c.fields < 2 ^ 16
+  pub fields : AllZip (IsFieldOf c.pool) c.fields v.fields
   pub few_methods : length c.methods < 2 ^ 16
   pub methods : AllZip (IsMethodOf c.pool) c.methods v.methods
   -- no two methods have one name and one descriptor (4.6)
@@ -127,17 +137,24 @@ pub record IsViewOf (c : ClassFile) (v : View) : Type 0 where
   pub few_sites : site_count v.methods ≤ 1000000
   pub attributes : ArePassed c.pool c.attributes
 
--- the bytes are a class file, and it has this view
-pub record Reads (bytes : List ℕ) (v : View) : Type 0 where
+-- A module has the flag 8000 (4.1), which is the highest of the two bytes, and no view.
+abbrev pub IsShown : View → Option View → Type 0
+IsShown v None = 0x8000 ≤ v.flags
+IsShown v (Some w) = (v.flags < 0x8000) × (w ≡ v)
+
+-- the bytes are a class file, and it has this view, or none
+pub record Reads (bytes : List ℕ) (r : Option View) : Type 0 where
   pub file : ClassFile
   pub spelled : bytes ≡ spelling file
-  pub view : IsViewOf file v
+  pub view : View
+  pub is : IsViewOf file view
+  pub shown : IsShown view r
 
 -- the first fault in reading order
 abbrev pub Breaks : List ℕ → ClassFault → Type 0
 Breaks bytes f = class_of bytes ≡ Err f
 
--- either a class file with one view, or broken with one first fault
+-- either a class file, with one view or none, or broken with one first fault
 pub data Verdict (bytes : List ℕ) : Type 0 where
-  IsRead : (v : View) → Reads bytes v → ((w : View) → Reads bytes w → w ≡ v) → ((f : ClassFault) → Breaks bytes f → ⊥) → Verdict bytes
-  IsBroken : (f : ClassFault) → Breaks bytes f → ((g : ClassFault) → Breaks bytes g → g ≡ f) → ((v : View) → Reads bytes v → ⊥) → Verdict bytes
+  IsRead : (r : Option View) → Reads bytes r → ((s : Option View) → Reads bytes s → s ≡ r) → ((f : ClassFault) → Breaks bytes f → ⊥) → Verdict bytes
+  IsBroken : (f : ClassFault) → Breaks bytes f → ((g : ClassFault) → Breaks bytes g → g ≡ f) → ((r : Option View) → Reads bytes r → ⊥) → Verdict bytes

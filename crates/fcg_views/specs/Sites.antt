@@ -1,45 +1,72 @@
--- The call sites of a method's code (JVMS 6.5).
+-- The sites of a method's code (JVMS 6.5).
 use Rattle.std.specs.Prelude.{◌≡◌, ℕ, ◌+◌, ◌<◌, ◌^◌, List, [], ◌∷◌, ◌++◌, length, Bool, true, false, Option, Some, None, ◌==◌, if◌then◌else◌}
 use Rattle.fcg_grammar.specs.Spell.{u2}
+use Rattle.fcg_views.specs.declared.view.Ref.{Ref}
 use Rattle.fcg_views.specs.declared.view.Site.{Site}
 use Rattle.fcg_views.specs.declared.view.SiteKind.{SiteKind}
-use Rattle.fcg_views.specs.declared.view.SiteKind.TheVariants.{Virtual, Interface, Special, Static}
+use Rattle.fcg_views.specs.declared.view.SiteKind.TheVariants.{Virtual, Interface, Special, Static, New, StaticField}
 use Rattle.fcg_views.specs.ClassFile.{is_one_of, Constant}
-use Rattle.fcg_views.specs.Constants.{NamesReference}
-use Rattle.fcg_views.specs.Descriptor.{IsDescriptor}
+use Rattle.fcg_views.specs.Constants.{NamesClass, NamesReference}
+use Rattle.fcg_views.specs.Descriptor.{IsDescriptor, IsFieldDescriptor}
 use Rattle.fcg_views.specs.Instructions.{Instruction, Plain, TableSwitch, LookupSwitch, Widened, instruction}
 
--- the kind of the sites of an opcode, and the tags that their references may have: 10 Methodref, 11 InterfaceMethodref
+-- what a site names by its index: a method by a constant of one of these tags, 10 a Methodref, 11 an
+-- InterfaceMethodref; a field; a type
+pub data Named : Type 0 where
+  Method : List ℕ → Named
+  Field : Named
+  Class : Named
+
 pub record SiteForm : Type 0 where
   pub kind : SiteKind
-  pub tags : List ℕ
+  pub named : Named
 
-abbrev pub formed : SiteKind → List ℕ → Option SiteForm
-formed kind tags = Some (record { kind = kind; tags = tags })
+abbrev pub formed : SiteKind → Named → Option SiteForm
+formed kind named = Some (record { kind = kind; named = named })
 
--- 182 invokevirtual, 183 invokespecial, 184 invokestatic, 185 invokeinterface
+-- 178 getstatic, 179 putstatic; 182 invokevirtual, 183 invokespecial, 184 invokestatic, 185 invokeinterface; 187 new
 abbrev pub site_form : ℕ → Option SiteForm
 site_form op =
-    if op == 182 then formed Virtual (10 ∷ [])
-    else (if op == 183 then formed Special (10 ∷ 11 ∷ [])
-    else (if op == 184 then formed Static (10 ∷ 11 ∷ [])
-    else (if op == 185 then formed Interface (11 ∷ []) else None)))
+    if op == 182 then formed Virtual (Method (10 ∷ []))
+    else (if op == 183 then formed Special (Method (10 ∷ 11 ∷ []))
+    else (if op == 184 then formed Static (Method (10 ∷ 11 ∷ []))
+    else (if op == 185 then formed Interface (Method (11 ∷ []))
+    else (if op == 187 then formed New Class
+    else (if op == 178 then formed StaticField Field
+    else (if op == 179 then formed StaticField Field else None))))))
 
--- the opcodes that aren't read yet: getstatic, putstatic, invokedynamic, new
+-- invokedynamic isn't read yet
 abbrev pub is_unread : ℕ → Bool
-is_unread op = is_one_of (178 ∷ 179 ∷ 186 ∷ 187 ∷ []) op
+is_unread op = op == 186
 
--- a site at a place of the code names a method by an index, of a type and with a name of a byte or more
+-- a member of a type by a constant of one of these tags; the name of the type and its own have a byte or more
+pub record IsMember (pool : List Constant) (IsTyped : List ℕ → Type 0) (tags : List ℕ) (index : ℕ) (r : Ref) : Type 0 where
+  pub tag : ℕ
+  pub allowed : is_one_of tags tag ≡ true
+  pub named : NamesReference pool index tag r.owner r.name r.desc
+  pub interface : r.owner_is_interface_ref ≡ (tag == 11)
+  pub owner : 0 < length r.owner
+  pub name : 0 < length r.name
+  pub typed : IsTyped r.desc
+
+-- a type alone
+pub record IsClass (pool : List Constant) (index : ℕ) (r : Ref) : Type 0 where
+  pub named : NamesClass pool index r.owner
+  pub owner : 0 < length r.owner
+  pub interface : r.owner_is_interface_ref ≡ false
+  pub name : r.name ≡ []
+  pub desc : r.desc ≡ []
+
+-- a Fieldref has the tag 9
+abbrev pub IsNamed : List Constant → Named → ℕ → Ref → Type 0
+IsNamed pool (Method tags) index r = IsMember pool IsDescriptor tags index r
+IsNamed pool Field index r = IsMember pool IsFieldDescriptor (9 ∷ []) index r
+IsNamed pool Class index r = IsClass pool index r
+
 pub record IsSite (pool : List Constant) (form : SiteForm) (pc index : ℕ) (s : Site) : Type 0 where
   pub pc_is : s.pc ≡ pc
   pub kind_is : s.kind ≡ form.kind
-  pub tag : ℕ
-  pub allowed : is_one_of form.tags tag ≡ true
-  pub named : NamesReference pool index tag s.target.owner s.target.name s.target.desc
-  pub interface : s.target.owner_is_interface_ref ≡ (tag == 11)
-  pub owner : 0 < length s.target.owner
-  pub name : 0 < length s.target.name
-  pub typed : IsDescriptor s.target.desc
+  pub target : IsNamed pool form.named index s.target
 
 -- The index stands in the two bytes after the opcode.
 pub record IsSiteWith (pool : List Constant) (form : SiteForm) (pc : ℕ) (operands : List ℕ) (s : Site) : Type 0 where

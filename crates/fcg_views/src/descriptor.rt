@@ -1,8 +1,8 @@
-//! Method descriptors (JVMS 4.3.3), read byte by byte.
-ghost use Rattle.std.specs.Prelude.{◌≡◌, ◌-◌, ◌^◌, ◌≤◌, ◌<◌, min, IfSome, IfOk, IfErr};
+//! Field and method descriptors (JVMS 4.3.2, 4.3.3), read byte by byte.
+ghost use Rattle.std.specs.Prelude.{◌≡◌, ◌-◌, ◌^◌, ◌≤◌, ◌<◌, length, min, IfSome, IfOk, IfErr, IsOk, is_ok};
 ghost use Rattle.fcg_views.specs.DescBounds.{IsSmall};
-ghost use Rattle.fcg_views.specs.Descriptor.{Spans, FaultAt};
-ghost use Rattle.fcg_views.specs.DescSteps.{is_letter, letter_units, taken, parameter_step, array_step, name_step, result_step, result_array_step, result_name_step, step, fault_at, ended, scan, descriptor_of};
+ghost use Rattle.fcg_views.specs.Descriptor.{Spans, FaultAt, IsFieldDescriptor, FieldFaultAt};
+ghost use Rattle.fcg_views.specs.DescSteps.{is_letter, letter_units, taken, parameter_step, array_step, name_step, result_step, result_array_step, result_name_step, step, fault_at, ended, scan_from, told, descriptor_of, begins_with_void, field_descriptor_of, is_field_descriptor};
 
 /// What a method descriptor says of its parameters.
 #[derive(Clone, Copy, Debug, PartialEq, Eq)]
@@ -15,11 +15,11 @@ pub struct DescSpan {
     pub result_at: u32,
 }
 
-/// Where a text stops to be the front of a method descriptor.
+/// Where a text stops to be the front of a descriptor.
 #[derive(Clone, Copy, Debug, PartialEq, Eq)]
 pub struct DescFault {
-    /// How many bytes of the text are the front of some method descriptor, at most. A number that is too large is
-    /// given as the last value.
+    /// How many bytes of the text are the front of some descriptor of the kind that was read, at most. A number that is
+    /// too large is given as the last value.
     pub offset: u32,
 }
 
@@ -47,6 +47,13 @@ const MOST_UNITS: u16 = 255;
 
 // The most dimensions of an array.
 const MOST_DIMENSIONS: u16 = 255;
+
+// A field descriptor is read as a result, after no parameters.
+const NO_PARAMETERS: DescSpan = DescSpan {
+    parameters: 0,
+    units: 0,
+    result_at: 0,
+};
 
 // Whether a byte is the letter of a base type.
 fn is_letter(byte: u8) -> bool
@@ -221,11 +228,12 @@ fn ended(state: DescState, at: usize) -> Result<DescSpan, DescFault>
     }
 }
 
-// The state after a text, or the place of the first byte without a step.
-fn scan(text: &[u8]) -> Result<DescState, usize>
-    ensures { result ≡ scan text.now }
+// The state that a text leads to from a first one, or the place of the first byte without a step.
+fn scan_from(start: DescState, text: &[u8]) -> Result<DescState, usize>
+    requires { IsSmall start }
+    ensures { result ≡ scan_from 0 start text.now }
 {
-    let mut state = DescState::Start;
+    let mut state = start;
     for (at, byte) in text.iter().enumerate() {
         match step(state, at, *byte) {
             Some(next) => state = next,
@@ -233,6 +241,17 @@ fn scan(text: &[u8]) -> Result<DescState, usize>
         }
     }
     Ok(state)
+}
+
+// What a text says that is read from a state on.
+fn read_from(start: DescState, text: &[u8]) -> Result<DescSpan, DescFault>
+    requires { IsSmall start }
+    ensures { result ≡ told (length text.now) (scan_from 0 start text.now) }
+{
+    match scan_from(start, text) {
+        Ok(state) => ended(state, text.len()),
+        Err(at) => Err(fault_at(at)),
+    }
 }
 
 /// Reads a method descriptor: `(`, field descriptors whose units are at most 255, `)`, and a field descriptor or `V`.
@@ -245,8 +264,29 @@ pub fn read_descriptor(text: &[u8]) -> Result<DescSpan, DescFault>
     ensures breaks { IfErr result (λ fault. FaultAt text.now fault) }
     ensures exact { result ≡ descriptor_of text.now }
 {
-    match scan(text) {
-        Ok(state) => ended(state, text.len()),
-        Err(at) => Err(fault_at(at)),
+    read_from(DescState::Start, text)
+}
+
+// Whether a text begins with `V`.
+fn begins_with_void(text: &[u8]) -> bool
+    ensures { result ≡ begins_with_void text.now }
+{
+    matches!(text.first(), Some(b'V'))
+}
+
+/// Reads a field descriptor: a letter of `BCDFIJSZ`, or `L`, one or more bytes other than `;`, and `;`, or 1 to 255
+/// times `[` before one of these (JVMS 4.3.2). Whether the name of a class is well formed is no question here.
+///
+/// Takes one pass over the text, and no memory.
+pub fn read_field_descriptor(text: &[u8]) -> Result<(), DescFault>
+    ensures found { IsOk result → IsFieldDescriptor text.now }
+    ensures breaks { IfErr result (λ fault. FieldFaultAt text.now fault) }
+    ensures exact { result ≡ field_descriptor_of text.now }
+    ensures test { is_ok result ≡ is_field_descriptor text.now }
+{
+    if begins_with_void(text) {
+        return Err(fault_at(0));
     }
+    read_from(DescState::Returned(NO_PARAMETERS), text)?;
+    Ok(())
 }

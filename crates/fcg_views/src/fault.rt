@@ -51,7 +51,7 @@ pub enum ClassRule {
     WrongKind,
     /// A descriptor is outside the grammar (JVMS 4.3).
     Descriptor,
-    /// The name of a type or a method is empty.
+    /// The name of a type, a field or a method is empty.
     EmptyName,
     /// An earlier method of the class has the same name and descriptor.
     DoubleMethod,
@@ -71,8 +71,7 @@ pub enum ClassRule {
     Trailing,
     /// The class has more than 1,000,000 sites.
     ManySites,
-    /// What isn't read yet: a module, a field, an attribute BootstrapMethods, and the instructions `getstatic`,
-    /// `putstatic`, `invokedynamic` and `new`.
+    /// What isn't read yet: an attribute BootstrapMethods, and the instruction `invokedynamic`.
     NotBuilt,
 }
 

@@ -1,6 +1,7 @@
 //! The values that every layer speaks of: names, views of class files, and lists of them. In specs/ stand the public
-//! definitions: what a class file is and which first fault other bytes have, what a method descriptor is and where other
-//! bytes break, which views are valid, and how names are escaped. The crate stands on the words of formats alone.
+//! definitions: what a class file is and which first fault other bytes have, what field and method descriptors are and
+//! where other bytes break, which views are valid, and how names are escaped. The crate stands on the words of formats
+//! alone.
 #![tactic(auto)]
 
 mod code;
@@ -16,7 +17,7 @@ mod valid;
 mod view;
 
 pub use code::CodeRule;
-pub use descriptor::{DescFault, DescSpan, read_descriptor};
+pub use descriptor::{DescFault, DescSpan, read_descriptor, read_field_descriptor};
 pub use escaping::{Place, escape, push_escaped};
 pub use fault::{
     ClassFault, ClassRule, PoolFault, PoolRule, at_index, at_opcode, fault_at, pool_fault_at,

@@ -1,4 +1,4 @@
-use crate::descriptor::{DescFault, DescSpan, read_descriptor};
+use crate::descriptor::{DescFault, DescSpan, read_descriptor, read_field_descriptor};
 use crate::escaping::{Place, escape};
 use crate::items::Items;
 use crate::name::Name;
@@ -72,6 +72,56 @@ fn tells_where_descriptors_break(rt: HostRuntime) -> Result<(), Fail> {
         let text = repeated(rt.alloc(), front, byte, count, back)?;
         assert_eq!(rt;
             read_descriptor(&text),
+            Err(DescFault { offset }),
+            "at {front} {count} {back}"
+        );
+    }
+    Ok(())
+}
+
+#[test]
+fn reads_field_descriptors(rt: HostRuntime) -> Result<(), Fail> {
+    for (front, byte, count, back) in [
+        ("B", b'[', 0, ""),
+        ("C", b'[', 0, ""),
+        ("D", b'[', 0, ""),
+        ("F", b'[', 0, ""),
+        ("I", b'[', 0, ""),
+        ("J", b'[', 0, ""),
+        ("S", b'[', 0, ""),
+        ("Z", b'[', 0, ""),
+        ("La;", b'[', 0, ""),
+        ("[[I", b'[', 0, ""),
+        ("", b'[', 255, "I"),
+    ] {
+        let text = repeated(rt.alloc(), front, byte, count, back)?;
+        assert_eq!(rt;
+            read_field_descriptor(&text),
+            Ok(()),
+            "at {front} {count} {back}"
+        );
+    }
+    Ok(())
+}
+
+#[test]
+fn tells_where_field_descriptors_break(rt: HostRuntime) -> Result<(), Fail> {
+    for (front, byte, count, back, offset) in [
+        ("", b'[', 0, "", 0),
+        ("V", b'[', 0, "", 0),
+        ("VI", b'[', 0, "", 0),
+        ("X", b'[', 0, "", 0),
+        ("(", b'[', 0, "", 0),
+        ("L;", b'[', 0, "", 1),
+        ("La", b'[', 0, "", 2),
+        ("[", b'[', 0, "", 1),
+        ("[V", b'[', 0, "", 1),
+        ("II", b'[', 0, "", 1),
+        ("", b'[', 256, "I", 255),
+    ] {
+        let text = repeated(rt.alloc(), front, byte, count, back)?;
+        assert_eq!(rt;
+            read_field_descriptor(&text),
             Err(DescFault { offset }),
             "at {front} {count} {back}"
         );

@@ -1,16 +1,18 @@
 -- The class file (JVMS 4.1).
-use Rattle.std.specs.Prelude.{ℕ, ◌+◌, List, [], length, ◌&&◌, nat_le, nat_lt, Option, Some, None, Result, Ok, ◌==◌, if◌then◌else◌}
+use Rattle.std.specs.Prelude.{ℕ, ◌+◌, List, length, ◌&&◌, nat_le, nat_lt, Option, Some, None, Result, Ok, ◌==◌, if◌then◌else◌}
 use Rattle.fcg_grammar.specs.Reading.{◌>>=◌, unless_broken}
 use Rattle.fcg_grammar.specs.Rows.{rows}
 use Rattle.fcg_views.specs.declared.view.View.{View}
+use Rattle.fcg_views.specs.declared.view.Field.{Field}
 use Rattle.fcg_views.specs.declared.view.Method.{Method}
 use Rattle.fcg_views.specs.declared.fault.ClassFault.{ClassFault}
-use Rattle.fcg_views.specs.declared.fault.ClassRule.TheVariants.{Magic, Version, EmptyName, Trailing, NotBuilt}
-use Rattle.fcg_views.specs.Breaks.Fault.{fault, in_pool, at_place}
+use Rattle.fcg_views.specs.declared.fault.ClassRule.TheVariants.{Magic, Version, Trailing}
+use Rattle.fcg_views.specs.Breaks.Fault.{fault, in_pool}
 use Rattle.fcg_views.specs.Breaks.Number.{u2_at, u4_at}
-use Rattle.fcg_views.specs.Breaks.Pool.{Entries, name_of, text_of, pool_at}
+use Rattle.fcg_views.specs.Breaks.Pool.{Entries, pool_at}
+use Rattle.fcg_views.specs.Breaks.Names.{type_of}
 use Rattle.fcg_views.specs.Breaks.Attributes.{attributes_at}
-use Rattle.fcg_views.specs.Breaks.Members.{methods_at}
+use Rattle.fcg_views.specs.Breaks.Members.{fields_at, methods_at}
 
 -- cafebabe, and a major version from 45 to 65 with any minor
 unfoldable pub header_kept : List ℕ → Result (Unit {0}) ClassFault
@@ -23,11 +25,7 @@ header_kept bytes = do
 
 -- the name of the type whose index stands at a place
 unfoldable pub type_at : Entries → ℕ → Result (List ℕ) ClassFault
-type_at pool at = do
-  index ← u2_at pool.bytes at 0
-  name ← at_place at index (name_of pool index >>= text_of pool)
-  filled ← unless_broken (nat_lt 0 (length name)) (fault at 0 EmptyName)
-  Ok name
+type_at pool at = u2_at pool.bytes at 0 >>= type_of pool at
 
 -- an index of 0 names no superclass
 unfoldable pub super_at : Entries → ℕ → Result (Option (List ℕ)) ClassFault
@@ -44,41 +42,32 @@ interfaces_at pool at = do
   count ← u2_at pool.bytes at 0
   rows (interface_at pool) count 0 (at + 2)
 
--- the flags of the type; a module isn't read yet
-unfoldable pub flags_at : Entries → ℕ → Result ℕ ClassFault
-flags_at pool at = do
-  flags ← u2_at pool.bytes at 0
-  type ← unless_broken (nat_lt flags 0x8000) (fault at 0 NotBuilt)
-  Ok flags
-
--- the place after the fields, which aren't read yet
-unfoldable pub fields_at : Entries → ℕ → Result ℕ ClassFault
-fields_at pool at = do
-  count ← u2_at pool.bytes at 0
-  none ← unless_broken (count == 0) (fault at 0 NotBuilt)
-  Ok (at + 2)
-
--- the methods, the class's attributes, and the end of the file
-unfoldable pub members_at : Entries → ℕ → Result (List Method) ClassFault
+-- the fields, the methods, the class's attributes, and the end of the file
+unfoldable pub members_at : Entries → ℕ → Result (List Field × List Method) ClassFault
 members_at pool at = do
-  methods_begin ← fields_at pool at
-  methods ← methods_at pool methods_begin
+  fields ← fields_at pool at
+  methods ← methods_at pool fields.1
   after ← attributes_at pool methods.1
   ended ← unless_broken (length pool.bytes == after) (fault after 0 Trailing)
-  Ok methods.0
+  Ok (fields.0, methods.0)
 
 -- what stands after the pool
 unfoldable pub body_at : Entries → ℕ → Result View ClassFault
 body_at pool at = do
-  flags ← flags_at pool at
+  flags ← u2_at pool.bytes at 0
   name ← type_at pool (at + 2)
   super ← super_at pool (at + 4)
   interfaces ← interfaces_at pool (at + 6)
-  methods ← members_at pool interfaces.1
-  Ok (record { name = name; flags = flags; superclass = super; interfaces = interfaces.0; fields = []; methods = methods })
+  members ← members_at pool interfaces.1
+  Ok (record { name = name; flags = flags; superclass = super; interfaces = interfaces.0; fields = members.0; methods = members.1 })
 
-unfoldable pub class_of : List ℕ → Result View ClassFault
+-- a module has no view
+abbrev pub shown : View → Option View
+shown v = if nat_lt v.flags 0x8000 then Some v else None
+
+unfoldable pub class_of : List ℕ → Result (Option View) ClassFault
 class_of bytes = do
   header ← header_kept bytes
   pool ← in_pool (pool_at bytes 8)
-  body_at pool.0 pool.1
+  view ← body_at pool.0 pool.1
+  Ok (shown view)

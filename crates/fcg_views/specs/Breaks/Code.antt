@@ -1,45 +1,50 @@
 -- The code of a method (JVMS 4.7.3), with its sites. All places are counted from the file's start but those of the
 -- instructions, which are counted from the code's.
-use Rattle.std.specs.Prelude.{ℕ, zero, suc, ◌+◌, List, [], ◌∷◌, ◌++◌, length, slice_index, not, ◌&&◌, nat_le, nat_lt, Option, Some, None, Result, Ok, Err, ◌==◌, if◌then◌else◌}
+use Rattle.std.specs.Prelude.{ℕ, zero, suc, ◌+◌, List, [], ◌∷◌, ◌++◌, length, slice_index, Bool, false, not, ◌&&◌, nat_le, nat_lt, Option, Some, None, Result, Ok, Err, ◌==◌, if◌then◌else◌}
 use Rattle.fcg_grammar.specs.Reading.{◌>>=◌, unless_broken}
 use Rattle.fcg_grammar.specs.Rows.{rows, ended}
+use Rattle.fcg_views.specs.declared.view.Ref.{Ref}
 use Rattle.fcg_views.specs.declared.view.Site.{Site}
 use Rattle.fcg_views.specs.declared.fault.ClassFault.{ClassFault}
 use Rattle.fcg_views.specs.declared.fault.ClassRule.TheVariants.{WrongKind, EmptyName, Descriptor, CodeLength, CodeCut, ManySites, Trailing, NotBuilt}
 use Rattle.fcg_views.specs.ClassFile.{is_one_of}
-use Rattle.fcg_views.specs.DescSteps.{is_descriptor}
-use Rattle.fcg_views.specs.Sites.{SiteForm, site_form, is_unread}
+use Rattle.fcg_views.specs.DescSteps.{is_descriptor, is_field_descriptor}
+use Rattle.fcg_views.specs.Sites.{Named, Method, Field, Class, SiteForm, site_form, is_unread}
 use Rattle.fcg_views.specs.Breaks.Fault.{fault, at_place, at_opcode}
 use Rattle.fcg_views.specs.Breaks.Number.{u2_at, u4_at, part_at}
-use Rattle.fcg_views.specs.Breaks.Pool.{Entries, Reference, reference_of}
+use Rattle.fcg_views.specs.Breaks.Pool.{Entries, reference_of}
+use Rattle.fcg_views.specs.Breaks.Names.{type_of}
 use Rattle.fcg_views.specs.Breaks.Instructions.{next_at, operand_at}
 use Rattle.fcg_views.specs.Breaks.Attributes.{attributes_at}
 
--- the method that an index names, by a constant of one of these tags; a fault is at a place
-unfoldable pub callee_of : Entries → List ℕ → ℕ → ℕ → Result Reference ClassFault
-callee_of pool tags at index = do
+-- the member of a type that an index names, by a constant of one of these tags and with a descriptor that passes a test;
+-- a fault is at a place
+unfoldable pub member_of : Entries → (List ℕ → Bool) → List ℕ → ℕ → ℕ → Result Ref ClassFault
+member_of pool is_typed tags at index = do
   r ← at_place at index (reference_of pool index)
   allowed ← unless_broken (is_one_of tags r.tag) (fault at index WrongKind)
   owned ← unless_broken (nat_lt 0 (length r.owner)) (fault at 0 EmptyName)
   named ← unless_broken (nat_lt 0 (length r.name)) (fault at 0 EmptyName)
-  typed ← unless_broken (is_descriptor r.desc) (fault at 0 Descriptor)
-  Ok r
+  typed ← unless_broken (is_typed r.desc) (fault at 0 Descriptor)
+  Ok (record { owner = r.owner; owner_is_interface_ref = r.tag == 11; name = r.name; desc = r.desc })
 
--- the site at a place of the code that names a method
-abbrev pub site_of : SiteForm → ℕ → Reference → Site
-site_of form pc r = record {
-  pc = pc;
-  kind = form.kind;
-  target = record { owner = r.owner; owner_is_interface_ref = r.tag == 11; name = r.name; desc = r.desc };
-}
+-- a type alone
+abbrev pub class_ref : List ℕ → Ref
+class_ref name = record { owner = name; owner_is_interface_ref = false; name = []; desc = [] }
+
+-- what a site names by an index
+abbrev pub target_of : Entries → Named → ℕ → ℕ → Result Ref ClassFault
+target_of pool (Method tags) at index = member_of pool is_descriptor tags at index
+target_of pool Field at index = member_of pool is_field_descriptor (9 ∷ []) at index
+target_of pool Class at index = type_of pool at index >>= λ name. Ok (class_ref name)
 
 -- The code that begins at a place of the file. So many sites of the class are before the ones that are read.
 module _ (pool : Entries) (begin : ℕ) (code : List ℕ) where
   unfoldable pub site_at : SiteForm → ℕ → ℕ → Result Site ClassFault
   site_at form pc count = do
-    r ← callee_of pool form.tags (begin + pc) (operand_at code pc)
+    target ← target_of pool form.named (begin + pc) (operand_at code pc)
     counted ← unless_broken (nat_lt count 1000000) (fault (begin + pc) 0 ManySites)
-    Ok (site_of form pc r)
+    Ok (record { pc = pc; kind = form.kind; target = target })
 
   abbrev pub sites_by : Option SiteForm → ℕ → ℕ → Result (List Site) ClassFault
   sites_by None pc count = Ok []

@@ -1,7 +1,0 @@
-use Rattle.std.proofs.Common.{◌≡◌, drop}
-use Rattle.fcg_views.specs.DescSteps.{scan, scan_from}
-use Rattle.fcg_views.specs.DescBounds.{IsSmall}
-use Rattle.fcg_views.proofs.descriptor.scan.Given as goal
-
-abbrev pub invariant-loop-at : goal.invariant-loop-at
-invariant-loop-at l = (scan_from l.at l.state (drop l.at l.text) ≡ scan l.text) × IsSmall l.state

@@ -1,0 +1,7 @@
+use Rattle.std.proofs.Common.{◌≡◌, drop}
+use Rattle.fcg_views.specs.DescSteps.{scan_from}
+use Rattle.fcg_views.specs.DescBounds.{IsSmall}
+use Rattle.fcg_views.proofs.descriptor.scan_from.Given as goal
+
+abbrev pub invariant-loop-at : goal.invariant-loop-at
+invariant-loop-at l = (scan_from l.at l.state (drop l.at l.text) ≡ scan_from 0 l.fn.start l.text) × IsSmall l.state

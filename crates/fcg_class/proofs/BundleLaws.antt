@@ -1,11 +1,12 @@
 -- Bundles: what is read is spelled so, and what is spelled so is read. So each string of bytes has one content, or one
 -- fault.
-use Rattle.std.proofs.Common.{◌≡◌, ℕ, ◌+◌, ◌-◌, ◌^◌, ◌<◌, ◌≤◌, Bool, true, false, cond, not, eqb, leb, ◌&&◌, List, [], ◌∷◌, ◌++◌, length, map, refl, sym, ap, subst, ◌∙◌, append_assoc, arith}
+use Rattle.std.proofs.Common.{◌≡◌, ℕ, ◌+◌, ◌-◌, ◌^◌, ◌<◌, ◌≤◌, Bool, true, false, cond, not, eqb, leb, ◌&&◌, List, [], ◌∷◌, ◌++◌, length, map, Option, Some, None, refl, sym, ap, subst, ◌∙◌, append_assoc, arith}
 use Rattle.std.specs.Prelude.{Result, Ok, Err, IfOk}
-use Rattle.std.specs.List.{flat_map, list_any, All, AllZip}
+use Rattle.std.specs.List.{flat_map, list_any, All, AllByRecursion, AllZip}
 use Rattle.std.proofs.lemmas.Bool.{eqb-true, leb-true, le-leb, and_parts}
 use Rattle.std.proofs.lemmas.Bool.Decides.{nat_tests}
 use Rattle.std.proofs.lemmas.List.{append-nil, length-append}
+use Rattle.std.proofs.lemmas.List.Concat.{flat_map-cons}
 use Rattle.std.proofs.lemmas.List.Elements.{All-from_recursion}
 use Rattle.std.proofs.lemmas.List.Sums.{sum_by-cons}
 use Rattle.std.proofs.lemmas.Map.Made.{AllPairs-from_IsDistinct, IsDistinct-from_AllPairs}
@@ -27,14 +28,14 @@ use Rattle.fcg_laws.proofs.ClassLaws.{class_found, class_only}
 use Rattle.fcg_laws.proofs.Fresh.{IsFresh, AreFresh, distinct_found, distinct_only}
 use Rattle.fcg_laws.proofs.Places.{closed}
 use Rattle.fcg_laws.proofs.WordLaws.{same_text}
-use Rattle.fcg_laws.proofs.ValidLaws.{reads_valid, zip_right}
+use Rattle.fcg_laws.proofs.ValidLaws.{reads_valid}
 use Rattle.fcg_class.specs.declared.bundle.BundleFault.{BundleFault}
 use Rattle.fcg_class.specs.declared.bundle.BundleFault.TheVariants.{Jar, NotBuilt}
 use Rattle.fcg_class.specs.Path.{is_path, is_class_path}
-use Rattle.fcg_class.specs.Bundle.{Entry, entry, bundle, IsEntryOf, Content, is_same, path_at, built, body_at, Begun, entry_at, entries_of, is_jar, bundle_of, BundleVerdict, IsContent, IsBroken}
+use Rattle.fcg_class.specs.Bundle.{Entry, entry, bundle, IsEntryOf, some_of, views_of, sites_in, Content, is_same, path_at, built, body_at, Begun, entry_at, entries_of, is_jar, bundle_of, BundleVerdict, IsContent, IsBroken}
 
-built_ok : (r : Result View ClassFault) (v : View) → built r ≡ Ok v → r ≡ Ok v
-built_ok (Ok w) v e = let same : w ≡ v = ok_is w v e in ap (λ (x : View). Ok x) same
+built_ok : (r : Result (Option View) ClassFault) (v : Option View) → built r ≡ Ok v → r ≡ Ok v
+built_ok (Ok w) v e = let same : w ≡ v = ok_is w v e in ap (λ (x : Option View). Ok x) same
 built_ok (Err f) v e = absurd cc
 
 not_true : (b : Bool) → not b ≡ true → b ≡ false
@@ -64,11 +65,11 @@ entry_length : (e : Entry) → length (entry e) ≡ 2 + length e.path + 4 + leng
 entry_length e = ap length (sym (listed e)) ∙ omega (arith, length-append e.path (u4 (length e.body) ++ e.body))
 
 -- from entry to entry, with the paths before and the sites that may still come
-record MeansEntry (s : Begun) (e : Entry) (v : View) (next : Begun) : Type 0 where
-  is : IsEntryOf e v
+record MeansEntry (s : Begun) (e : Entry) (r : Option View) (next : Begun) : Type 0 where
+  is : IsEntryOf e r
   fresh : IsFresh is_same s.paths e.path
-  few : site_count v.methods ≤ s.room
-  room : next.room ≡ s.room - site_count v.methods
+  few : sites_in r ≤ s.room
+  room : next.room ≡ s.room - sites_in r
   at : next.at ≡ s.at + length (entry e)
   paths : next.paths ≡ s.paths ++ e.path ∷ []
 
@@ -98,13 +99,13 @@ module _ (bytes : List ℕ) (fits : IsBytes bytes) where
       let text = part_only NotBuilt bytes (at + 2) path rest after n.1 in
       (rw (n.0, text.0, kept, class) refl, text.1)
 
-  record FoundBody (at : ℕ) (v : View) (after : ℕ) : Type 0 where
+  record FoundBody (at : ℕ) (v : Option View) (after : ℕ) : Type 0 where
     body : List ℕ
     stands : Stands bytes at (u4 (length body) ++ body) after
     few : length body < 2 ^ 32
     reads : Reads body v
 
-  body_found : (at : ℕ) (x : View × ℕ) → body_at bytes at ≡ Ok x → FoundBody at x.0 x.1
+  body_found : (at : ℕ) (x : Option View × ℕ) → body_at bytes at ≡ Ok x → FoundBody at x.0 x.1
   unfolding body_at
   body_found at x e =
       let a = bind_ok (u4_at NotBuilt bytes at) _ x e in
@@ -114,14 +115,14 @@ module _ (bytes : List ℕ) (fits : IsBytes bytes) where
       let text = part_found NotBuilt bytes (at + 4) a.0 b.0 b.1 in
       let own = IsBytes-part bytes (at + 4) a.0 b.0 fits text.2 in
       let s = subst (λ (m : ℕ). Stands bytes at (u4 m) (at + 4)) (sym text.1) n.0 in
-      subst (λ (y : View × ℕ). FoundBody at y.0 y.1) (ok_is _ x c.2) (record {
+      subst (λ (y : Option View × ℕ). FoundBody at y.0 y.1) (ok_is _ x c.2) (record {
         body = b.0;
         stands = Stands-then s text.0;
         few = omega (arith, text.1, n.1);
         reads = class_found b.0 c.0 own (built_ok (class_of b.0) c.0 c.1);
       })
 
-  body_only : (at : ℕ) (body : List ℕ) (v : View) (rest : List ℕ) (after : ℕ) → length body < 2 ^ 32 → Reads body v → Stands bytes at (u4 (length body) ++ (body ++ rest)) after
+  body_only : (at : ℕ) (body : List ℕ) (v : Option View) (rest : List ℕ) (after : ℕ) → length body < 2 ^ 32 → Reads body v → Stands bytes at (u4 (length body) ++ (body ++ rest)) after
       → body_at bytes at ≡ Ok (v, at + 4 + length body)
   unfolding body_at
   body_only at body v rest after few reads s =
@@ -133,18 +134,18 @@ module _ (bytes : List ℕ) (fits : IsBytes bytes) where
   abbrev place : Begun → ℕ
   place s = s.at
 
-  entry_found : (k : ℕ) (s : Begun) (x : View × Begun) → s.at ≤ length bytes → entry_at bytes k s ≡ Ok x → FoundRow bytes place entry MeansEntry (entry_at bytes) s x.0 x.1
+  entry_found : (k : ℕ) (s : Begun) (x : Option View × Begun) → s.at ≤ length bytes → entry_at bytes k s ≡ Ok x → FoundRow bytes place entry MeansEntry (entry_at bytes) s x.0 x.1
   unfolding entry_at
   entry_found k s x le e =
       let a = bind_ok (path_at bytes s.at) _ x e in
       let b = bind_ok (unless_broken (not (list_any (λ p. is_same p a.0.0) s.paths)) NotBuilt) _ x a.2 in
       let c = bind_ok (body_at bytes a.0.1) _ x b.2 in
-      let d = bind_ok (unless_broken (leb (site_count c.0.0.methods) s.room) NotBuilt) _ x c.2 in
+      let d = bind_ok (unless_broken (leb (sites_in c.0.0) s.room) NotBuilt) _ x c.2 in
       let path = path_found s.at a.0 a.1 in
       let body = body_found a.0.1 c.0 c.1 in
       let row : Entry = record { path = a.0.0; body = body.body } in
       let whole = listed_at row (Stands-then path.stands body.stands) in
-      subst (λ (y : View × Begun). FoundRow bytes place entry MeansEntry (entry_at bytes) s y.0 y.1) (ok_is _ x d.2) (record {
+      subst (λ (y : Option View × Begun). FoundRow bytes place entry MeansEntry (entry_at bytes) s y.0 y.1) (ok_is _ x d.2) (record {
         row = row;
         stands = whole;
         meant = record {
@@ -157,7 +158,7 @@ module _ (bytes : List ℕ) (fits : IsBytes bytes) where
         };
       })
 
-  entry_only : (k : ℕ) (s : Begun) (e : Entry) (v : View) (next : Begun) (rest : List ℕ) (after : ℕ) → MeansEntry s e v next → Stands bytes s.at (entry e ++ rest) after
+  entry_only : (k : ℕ) (s : Begun) (e : Entry) (v : Option View) (next : Begun) (rest : List ℕ) (after : ℕ) → MeansEntry s e v next → Stands bytes s.at (entry e ++ rest) after
       → (entry_at bytes k s ≡ Ok (v, next)) × (next.at ≡ s.at + length (entry e))
   unfolding entry_at
   entry_only k s e v next rest after is t =
@@ -165,15 +166,15 @@ module _ (bytes : List ℕ) (fits : IsBytes bytes) where
       let path = path_only s.at e.path (u4 (length e.body) ++ (e.body ++ rest)) after is.is.path is.is.class here in
       let body = body_only (s.at + 2 + length e.path) e.body v rest after is.is.few is.is.reads path.1 in
       let end : s.at + 2 + length e.path + 4 + length e.body ≡ next.at = omega (arith, entry_length e, is.at) in
-      let few : leb (site_count v.methods) s.room ≡ true = le-leb _ _ is.few in
+      let few : leb (sites_in v) s.room ≡ true = le-leb _ _ is.few in
       (rw (path.0, is.fresh, body, few, end, ← is.paths, ← is.room) refl, is.at)
 
   -- ---- along the entries
 
-  abbrev Follow : Begun → List Entry → List View → Begun → Type 0
+  abbrev Follow : Begun → List Entry → List (Option View) → Begun → Type 0
   Follow s es vs end = Linked bytes place entry MeansEntry (entry_at bytes) s es vs end
 
-  follow_found : (s : Begun) (es : List Entry) (vs : List View) (end : Begun) → Follow s es vs end → AllZip IsEntryOf es vs × AreFresh is_same s.paths (map (λ e. e.path) es)
+  follow_found : (s : Begun) (es : List Entry) (vs : List (Option View)) (end : Begun) → Follow s es vs end → AllZip IsEntryOf es vs × AreFresh is_same s.paths (map (λ e. e.path) es)
   follow_found s [] [] end l = (tt, tt)
   follow_found s [] (v ∷ vs) end l = absurd l
   follow_found s (e ∷ es) [] end l = absurd l
@@ -181,11 +182,12 @@ module _ (bytes : List ℕ) (fits : IsBytes bytes) where
       let below = follow_found l.0 es vs end l.2 in
       ((l.1.is, below.0), (l.1.fresh, subst (λ (p : List (List ℕ)). AreFresh is_same p (map (λ e. e.path) es)) l.1.paths below.1))
 
-  -- the sites of a view more
-  one_more : (v : View) (vs : List View) → sites_of_all (v ∷ vs) ≡ site_count v.methods + sites_of_all vs
-  one_more v vs = sum_by-cons (λ (w : View). site_count w.methods) v vs
+  -- the sites of an entry more
+  one_more : (v : Option View) (vs : List (Option View)) → sites_of_all (views_of (v ∷ vs)) ≡ sites_in v + sites_of_all (views_of vs)
+  one_more None vs = let same = ap sites_of_all (flat_map-cons some_of None vs) in omega (arith, same)
+  one_more (Some v) vs = ap sites_of_all (flat_map-cons some_of (Some v) vs) ∙ sum_by-cons (λ (w : View). site_count w.methods) v (views_of vs)
 
-  follow_few : (s : Begun) (es : List Entry) (vs : List View) (end : Begun) → Follow s es vs end → sites_of_all vs ≤ s.room
+  follow_few : (s : Begun) (es : List Entry) (vs : List (Option View)) (end : Begun) → Follow s es vs end → sites_of_all (views_of vs) ≤ s.room
   follow_few s [] [] end l = omega arith
   follow_few s [] (v ∷ vs) end l = absurd l
   follow_few s (e ∷ es) [] end l = absurd l
@@ -195,14 +197,14 @@ module _ (bytes : List ℕ) (fits : IsBytes bytes) where
       let room = is.room in
       omega (arith, one_more v vs, below, few, room)
 
-  follow_only : (s : Begun) (es : List Entry) (vs : List View) → AllZip IsEntryOf es vs → AreFresh is_same s.paths (map (λ e. e.path) es) → sites_of_all vs ≤ s.room → (end : Begun) × Follow s es vs end
+  follow_only : (s : Begun) (es : List Entry) (vs : List (Option View)) → AllZip IsEntryOf es vs → AreFresh is_same s.paths (map (λ e. e.path) es) → sites_of_all (views_of vs) ≤ s.room → (end : Begun) × Follow s es vs end
   follow_only s [] [] z f few = (s, refl)
   follow_only s [] (v ∷ vs) z f few = absurd z
   follow_only s (e ∷ es) [] z f few = absurd z
   follow_only s (e ∷ es) (v ∷ vs) z f few =
-      let next : Begun = record { at = s.at + length (entry e); paths = s.paths ++ e.path ∷ []; room = s.room - site_count v.methods } in
-      let here : site_count v.methods ≤ s.room = omega (arith, one_more v vs, few) in
-      let left : sites_of_all vs ≤ s.room - site_count v.methods = omega (arith, one_more v vs, few) in
+      let next : Begun = record { at = s.at + length (entry e); paths = s.paths ++ e.path ∷ []; room = s.room - sites_in v } in
+      let here : sites_in v ≤ s.room = omega (arith, one_more v vs, few) in
+      let left : sites_of_all (views_of vs) ≤ s.room - sites_in v = omega (arith, one_more v vs, few) in
       let below = follow_only next es vs z.1 f.1 left in
       (below.0, (next, record { is = z.0; fresh = f.0; few = here; room = refl; at = refl; paths = refl }, below.1))
 
@@ -227,11 +229,13 @@ module _ (bytes : List ℕ) (fits : IsBytes bytes) where
       let along = follow_found begun r.table g.0.0 g.0.1 r.meant in
       let s6 = subst (λ (k : ℕ). Stands bytes 6 (u4 k) 10) (sym r.many) n.0 in
       let whole = subst (λ (k : ℕ). Stands bytes 0 (u4 0x46434742 ++ (u2 1 ++ (u4 (length r.table) ++ flat_map entry r.table))) k) (sym ended) (Stands-then s0 (Stands-then s4 (Stands-then s6 r.stands))) in
-      subst (λ (y : List View). Content bytes y) (ok_is g.0.0 views h.2) (record {
+      subst (λ (y : List View). Content bytes y) (ok_is (views_of g.0.0) views h.2) (record {
         entries = r.table;
         spelled = whole_is bytes (bundle r.table) (closed (u4 0x46434742 ++ (u2 1 ++ u4 (length r.table))) (flat_map entry r.table) whole);
         few = omega (arith, r.many, n.1);
+        reads = g.0.0;
         each = along.0;
+        views_are = refl;
         distinct = AllPairs-from_IsDistinct same_text (map (λ e. e.path) r.table) (distinct_found is_same (map (λ e. e.path) r.table) along.1);
         few_sites = follow_few begun r.table g.0.0 g.0.1 r.meant;
       })
@@ -246,10 +250,11 @@ module _ (bytes : List ℕ) (fits : IsBytes bytes) where
       let a = u4_only NotBuilt bytes 0 0x46434742 (u2 1 ++ (u4 (length es) ++ (flat_map entry es ++ []))) (length bytes) (omega arith) s in
       let b = u2_only NotBuilt bytes 4 1 (u4 (length es) ++ (flat_map entry es ++ [])) (length bytes) (omega arith) a.1 in
       let n = u4_only NotBuilt bytes 6 (length es) (flat_map entry es ++ []) (length bytes) c.few b.1 in
-      let along = follow_only begun es views c.each (distinct_only is_same paths (IsDistinct-from_AllPairs same_text paths c.distinct)) c.few_sites in
-      let r = rows_only bytes place entry MeansEntry (entry_at bytes) entry_only 0 begun es views along.0 [] (length bytes) along.1 n.1 in
+      let few = subst (λ (vs : List View). sites_of_all vs ≤ 4000000) c.views_are c.few_sites in
+      let along = follow_only begun es c.reads c.each (distinct_only is_same paths (IsDistinct-from_AllPairs same_text paths c.distinct)) few in
+      let r = rows_only bytes place entry MeansEntry (entry_at bytes) entry_only 0 begun es c.reads along.0 [] (length bytes) along.1 n.1 in
       let end : eqb (length bytes) along.0.at ≡ true = (let ends = r.1.ends in grind (arith, nat_tests)) in
-      rw (a.0, b.0, n.0, r.0, end) refl
+      rw (a.0, b.0, n.0, r.0, end) (ap (λ (vs : List View). Ok vs) (sym c.views_are))
 
 -- ---- the whole bundle
 
@@ -272,12 +277,17 @@ content_only bytes views fits c =
     let plain : is_jar bytes ≡ false = ap (λ (l : List ℕ). is_jar l) c.spelled ∙ no_bundle_is_jar c.entries in
     rw plain (entries_only bytes fits views c)
 
-valid_entry : (e : Entry) (v : View) → IsEntryOf e v → IsValid v
-valid_entry e v is = reads_valid e.body v is.reads
+-- the views of the entries are valid
+valid_views : (es : List Entry) (rs : List (Option View)) → AllZip IsEntryOf es rs → AllByRecursion IsValid (views_of rs)
+valid_views [] [] z = tt
+valid_views [] (r ∷ rs) z = absurd z
+valid_views (e ∷ es) [] z = absurd z
+valid_views (e ∷ es) (None ∷ rs) z = valid_views es rs z.1
+valid_views (e ∷ es) (Some v ∷ rs) z = (reads_valid e.body v z.0.reads, valid_views es rs z.1)
 
 -- each view of a bundle is valid
 pub content_valid : (bytes : List ℕ) (views : List View) → Content bytes views → All IsValid views
-content_valid bytes views c = All-from_recursion IsValid views (zip_right IsEntryOf IsValid valid_entry c.entries views c.each)
+content_valid bytes views c = All-from_recursion IsValid views (subst (λ (vs : List View). AllByRecursion IsValid vs) (sym c.views_are) (valid_views c.entries c.reads c.each))
 
 -- ---- what a reader answers
 

@@ -15,7 +15,7 @@ use Rattle.fcg_views.specs.Sites.{SiteForm, site_form, is_unread}
 use Rattle.fcg_views.specs.Breaks.Fault.{fault, at_opcode}
 use Rattle.fcg_views.specs.Breaks.Pool.{Entries}
 use Rattle.fcg_views.specs.Breaks.Instructions.{next_at, operand_at}
-use Rattle.fcg_views.specs.Breaks.Code.{callee_of, site_at, sites_by, sites_at, sites_from}
+use Rattle.fcg_views.specs.Breaks.Code.{target_of, site_at, sites_by, sites_at, sites_from}
 
 -- what was read before, and what is still read
 abbrev pub after_front : List Site → Result (List Site) ClassFault → Result (List Site) ClassFault
@@ -114,7 +114,7 @@ module _ (pool : Entries) (begin : ℕ) (code : List ℕ) where
   one_counted : (form : SiteForm) (pc count : ℕ) (s : Site) → site_at pool begin code form pc count ≡ Ok s → count < 1000000
   unfolding site_at
   one_counted form pc count s e =
-      let a = bind_ok (callee_of pool form.tags (begin + pc) (operand_at code pc)) _ s e in
+      let a = bind_ok (target_of pool form.named (begin + pc) (operand_at code pc)) _ s e in
       let b = bind_ok (unless_broken (nat_lt count 1000000) (fault (begin + pc) 0 ManySites)) _ s a.2 in
       below count (kept_ok (nat_lt count 1000000) (fault (begin + pc) 0 ManySites) b.0 b.1)
     where

@@ -1,5 +1,5 @@
 -- Reading the entries of a bundle, as a loop does.
-use Rattle.std.proofs.Common.{◌≡◌, ℕ, ◌+◌, ◌-◌, ◌<◌, arith, Bool, true, false, cond, not, ◌||◌, leb, Some, None, List, [], ◌∷◌, ◌++◌, refl, sym, ◌∙◌}
+use Rattle.std.proofs.Common.{◌≡◌, ℕ, ◌+◌, ◌-◌, ◌<◌, arith, Bool, true, false, cond, not, ◌||◌, leb, Option, Some, None, List, [], ◌∷◌, ◌++◌, refl, sym, ap, ◌∙◌}
 use Rattle.std.specs.Prelude.{Result, Ok, Err}
 use Rattle.std.specs.Borrow.{Bor}
 use Rattle.std.specs.List.{list_any}
@@ -7,6 +7,8 @@ use Rattle.std.specs.Ordering.{is_eq}
 use Rattle.std.specs.Cmp.Lexicographic.{texts_ties}
 use Rattle.std.specs.BTreeSet as tree
 use Rattle.std.specs.BTreeSet.{BTreeSet}
+use Rattle.std.proofs.lemmas.List.{append-nil}
+use Rattle.std.proofs.lemmas.List.Concat.{flat_map-cons, flat_map-append}
 use Rattle.std.proofs.lemmas.List.Folds.{list_any-append}
 use Rattle.fcg_grammar.specs.declared.error.ReadError.{ReadError}
 use Rattle.fcg_grammar.specs.declared.error.ReadError.TheVariants as errors
@@ -14,11 +16,11 @@ use Rattle.fcg_grammar.specs.Reading.{Fails}
 use Rattle.fcg_grammar.specs.Rows.{rows}
 use Rattle.fcg_grammar.proofs.RowLemmas.{with_front, rows_go_on}
 use Rattle.fcg_views.specs.declared.view.View.{View}
-use Rattle.fcg_views.specs.Valid.{site_count, left_of}
+use Rattle.fcg_views.specs.Valid.{left_of}
 use Rattle.fcg_class.specs.declared.bundle.Ahead.{Ahead}
 use Rattle.fcg_class.specs.declared.bundle.BundleFault.{BundleFault}
 use Rattle.fcg_class.specs.declared.bundle.BundleFault.TheVariants.{NotBuilt}
-use Rattle.fcg_class.specs.Bundle.{Begun, is_same, path_at, body_at, entry_at}
+use Rattle.fcg_class.specs.Bundle.{sites_in, some_of, views_of, Begun, is_same, path_at, body_at, entry_at}
 use Rattle.fcg_class.specs.Entries.{path_cmp, ArePaths, begun, start, GivesEntry}
 
 negated : (a b c : Bool) → a ≡ b → c ≡ not a → not c ≡ b
@@ -54,10 +56,10 @@ module _ (bytes : List ℕ) (k : ℕ) (ahead : Ahead) (before : List (List ℕ))
   entry_at-broken errors.NoMemory given = tt
   entry_at-broken (errors.Fault f) given = rw (is, ← fresh, given) refl
 
-  pub entry_at-read : (view : View) (end room : ℕ) → body_at bytes after ≡ Ok (view, end) → left_of ahead.room (site_count view.methods) ≡ Some room → entry_at bytes k (begun ahead before) ≡ Ok (view, begun (record { at = end; room = room }) (before ++ path ∷ []))
+  pub entry_at-read : (r : Option View) (end room : ℕ) → body_at bytes after ≡ Ok (r, end) → left_of ahead.room (sites_in r) ≡ Some room → entry_at bytes k (begun ahead before) ≡ Ok (r, begun (record { at = end; room = room }) (before ++ path ∷ []))
   unfolding entry_at
-  entry_at-read view end room given some =
-      let l = left (leb (site_count view.methods) ahead.room) _ room some in
+  entry_at-read r end room given some =
+      let l = left (leb (sites_in r) ahead.room) _ room some in
       rw (is, ← fresh, given, l.0, ← l.1) refl
     where
       left : (b : Bool) (n m : ℕ) → cond b (Some n) None ≡ Some m → (b ≡ true) × (m ≡ n)
@@ -78,8 +80,13 @@ entries_begin bytes count at =
     front_none (Ok x) = refl
     front_none (Err f) = refl
 
-pub entries_go_on : (bytes : List ℕ) (count k : ℕ) (place : Ahead) (before : List (List ℕ)) (front : List View) (view : View) (after : Ahead) (set : BTreeSet (Bor (List ℕ))) (total : Result (List View × Begun) BundleFault) → k < count
+pub entries_go_on : (bytes : List ℕ) (count k : ℕ) (place : Ahead) (before : List (List ℕ)) (front : List (Option View)) (view : Option View) (after : Ahead) (set : BTreeSet (Bor (List ℕ))) (total : Result (List (Option View) × Begun) BundleFault) → k < count
     → GivesEntry (Ok (view, after)) set before (entry_at bytes k (begun place before)) → with_front front (rows (entry_at bytes) (count - k) k (begun place before)) ≡ total
     → (paths : List (List ℕ)) × ArePaths set paths × (with_front (front ++ view ∷ []) (rows (entry_at bytes) (count - (k + 1)) (k + 1) (begun after paths)) ≡ total)
 entries_go_on bytes count k place before front view after set total lt given so_far =
     (before ++ given.0 ∷ [], given.1, rows_go_on (entry_at bytes) front count k (begun place before) view (begun after (before ++ given.0 ∷ [])) total lt given.2 so_far)
+
+-- the views, where an entry was added
+pub views_more : (front : List (Option View)) (r : Option View) (old new : List View) → old ≡ views_of front → new ≡ old ++ some_of r → new ≡ views_of (front ++ r ∷ [])
+views_more front r old new are pushed =
+    pushed ∙ ap (λ (vs : List View). vs ++ some_of r) are ∙ ap (λ (vs : List View). views_of front ++ vs) (sym (append-nil (some_of r)) ∙ sym (flat_map-cons some_of r [])) ∙ sym (flat_map-append some_of front (r ∷ []))

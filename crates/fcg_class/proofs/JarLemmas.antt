@@ -11,11 +11,10 @@ use Rattle.fcg_grammar.proofs.LawLemmas.{whole, err_is, ok_or_err}
 use Rattle.fcg_views.specs.declared.view.View.{View}
 use Rattle.fcg_views.specs.declared.fault.ClassFault.{ClassFault}
 use Rattle.fcg_views.specs.Breaks.Class.{class_of}
-use Rattle.fcg_views.specs.Valid.{site_count}
 use Rattle.fcg_class.specs.declared.bundle.BundleFault.{BundleFault}
 use Rattle.fcg_class.specs.declared.bundle.BundleFault.TheVariants.{Jar, NotBuilt}
 use Rattle.fcg_class.specs.Path.{is_path, is_class_path}
-use Rattle.fcg_class.specs.Bundle.{Begun, is_same, built, path_at, body_at, entry_at, entries_of}
+use Rattle.fcg_class.specs.Bundle.{sites_in, Begun, is_same, built, path_at, body_at, entry_at, entries_of}
 
 -- where it is a fault, it is NotBuilt
 record IsNoJar {A : Type 0} (r : Result A BundleFault) : Type 0 where
@@ -75,7 +74,7 @@ entry_no_jar bytes k s =
     then (path_at bytes s.at) _ (path_no_jar bytes s.at) (λ path.
     rule (not (list_any (λ p. is_same p path.0) s.paths)) _ (λ u.
     then (body_at bytes path.1) _ (body_no_jar bytes path.1) (λ body.
-    rule (leb (site_count body.0.methods) s.room) _ (λ v. ok_no_jar _))))
+    rule (leb (sites_in body.0) s.room) _ (λ v. ok_no_jar _))))
 
 rows_no_jar : {X S : Type 0} (read : ℕ → S → Result (X × S) BundleFault) → ((k : ℕ) (s : S) → IsNoJar (read k s)) → (n k : ℕ) (s : S) → IsNoJar (rows read n k s)
 rows_no_jar read each zero k s = ok_no_jar _

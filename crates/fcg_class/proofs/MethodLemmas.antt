@@ -10,6 +10,7 @@ use Rattle.std.specs.BTreeSet.{BTreeSet}
 use Rattle.std.proofs.lemmas.List.Folds.{list_any-append}
 use Rattle.std.proofs.lemmas.List.Sums.{sum_by_push}
 use Rattle.fcg_views.specs.declared.view.Method.{Method}
+use Rattle.fcg_views.specs.DescSteps.{is_descriptor}
 use Rattle.fcg_views.specs.Valid.{site_count}
 use Rattle.fcg_grammar.specs.declared.error.ReadError.{ReadError}
 use Rattle.fcg_grammar.specs.declared.error.ReadError.TheVariants as errors
@@ -20,7 +21,7 @@ use Rattle.fcg_views.specs.declared.fault.ClassFault.{ClassFault}
 use Rattle.fcg_views.specs.declared.fault.ClassRule.TheVariants.{DoubleMethod}
 use Rattle.fcg_views.specs.Breaks.Fault.{fault}
 use Rattle.fcg_views.specs.Breaks.Pool.{Entries, text_of}
-use Rattle.fcg_views.specs.Breaks.Members.{CodeBegun, Begun, method_attributes_at, or_none, with_sites, declared_at, method_at}
+use Rattle.fcg_views.specs.Breaks.Members.{Declared, CodeBegun, Begun, method_attributes_at, or_none, method_of, declared_at, method_at}
 use Rattle.fcg_class.specs.Members.{begun, GivesNext}
 use Rattle.fcg_class.proofs.FirstLemmas.{same_first}
 use Rattle.fcg_class.specs.Firsts.{AreFirsts}
@@ -62,21 +63,21 @@ site_count-few sites n methods before m counted same size few = rw (counted, sam
 -- ---- a method
 
 -- an earlier one is alike
-pub method_at-doubled : (pool : Entries) (k at : ℕ) (methods : List Method) (m : Method) → declared_at pool at ≡ Ok m → list_any (is_signature m.name m.desc) methods ≡ true → method_at pool k (begun at methods) ≡ Err (fault at 0 DoubleMethod)
+pub method_at-doubled : (pool : Entries) (k at : ℕ) (methods : List Method) (d : Declared) → declared_at pool is_descriptor at ≡ Ok d → list_any (is_signature d.name d.desc) methods ≡ true → method_at pool k (begun at methods) ≡ Err (fault at 0 DoubleMethod)
 unfolding method_at
-method_at-doubled pool k at methods m is doubled = rw (is, doubled) refl
+method_at-doubled pool k at methods d is doubled = rw (is, doubled) refl
 
 -- Its attributes are broken, or there was no memory for them.
-pub method_at-broken : (pool : Entries) (k at : ℕ) (methods : List Method) (m : Method) (e : ReadError ClassFault) → declared_at pool at ≡ Ok m → list_any (is_signature m.name m.desc) methods ≡ false
+pub method_at-broken : (pool : Entries) (k at : ℕ) (methods : List Method) (d : Declared) (e : ReadError ClassFault) → declared_at pool is_descriptor at ≡ Ok d → list_any (is_signature d.name d.desc) methods ≡ false
     → Fails e (method_attributes_at pool (site_count methods) (at + 6)) → Fails e (method_at pool k (begun at methods))
 unfolding method_at
-method_at-broken pool k at methods m errors.NoMemory is fresh broken = tt
-method_at-broken pool k at methods m (errors.Fault f) is fresh broken = rw (is, fresh, broken) refl
+method_at-broken pool k at methods d errors.NoMemory is fresh broken = tt
+method_at-broken pool k at methods d (errors.Fault f) is fresh broken = rw (is, fresh, broken) refl
 
-pub method_at-read : (pool : Entries) (k at : ℕ) (methods : List Method) (m : Method) (read : CodeBegun) → declared_at pool at ≡ Ok m → list_any (is_signature m.name m.desc) methods ≡ false
-    → method_attributes_at pool (site_count methods) (at + 6) ≡ Ok read → method_at pool k (begun at methods) ≡ Ok (with_sites m (or_none read.sites), begun read.at (methods ++ with_sites m (or_none read.sites) ∷ []))
+pub method_at-read : (pool : Entries) (k at : ℕ) (methods : List Method) (d : Declared) (read : CodeBegun) → declared_at pool is_descriptor at ≡ Ok d → list_any (is_signature d.name d.desc) methods ≡ false
+    → method_attributes_at pool (site_count methods) (at + 6) ≡ Ok read → method_at pool k (begun at methods) ≡ Ok (method_of d (or_none read.sites), begun read.at (methods ++ method_of d (or_none read.sites) ∷ []))
 unfolding method_at
-method_at-read pool k at methods m read is fresh attributes = rw (is, fresh, attributes) refl
+method_at-read pool k at methods d read is fresh attributes = rw (is, fresh, attributes) refl
 
 -- ---- the rows of methods, one after the other
 

@@ -20,7 +20,7 @@ module _ (bytes : List ℕ) (pool : Entries) where
   unfolding text_of
   text_over index = rw (constant_over index) refl
 
-  name_over : (index : ℕ) → name_of (over bytes pool) index ≡ name_of pool index
+  pub name_over : (index : ℕ) → name_of (over bytes pool) index ≡ name_of pool index
   unfolding name_of
   name_over index = rw (constant_over index) refl
 

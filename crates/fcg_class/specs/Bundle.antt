@@ -1,5 +1,5 @@
 -- Bundles: what they are, and how they are read.
-use Rattle.std.specs.Prelude.{◌≡◌, ◌≢◌, ℕ, ◌+◌, ◌-◌, ◌<◌, ◌≤◌, ◌^◌, List, [], ◌∷◌, ◌++◌, length, map, Bool, true, not, ◌&&◌, nat_eq, nat_le, Result, Ok, Err, ◌==◌, if◌then◌else◌}
+use Rattle.std.specs.Prelude.{◌≡◌, ◌≢◌, ℕ, ◌+◌, ◌-◌, ◌<◌, ◌≤◌, ◌^◌, List, [], ◌∷◌, ◌++◌, length, map, Bool, true, not, ◌&&◌, nat_eq, nat_le, Option, Some, None, Result, Ok, Err, ◌==◌, if◌then◌else◌}
 use Rattle.std.specs.List.{concat, flat_map, list_any, starts_with, AllPairs, AllZip}
 use Rattle.std.specs.Cmp.Lexicographic.{pointwise}
 use Rattle.fcg_grammar.specs.Spell.{u2, u4}
@@ -29,18 +29,29 @@ entry e = concat (u2 (length e.path) ∷ e.path ∷ u4 (length e.body) ∷ e.bod
 abbrev pub bundle : List Entry → List ℕ
 bundle entries = concat (u4 0x46434742 ∷ u2 1 ∷ u4 (length entries) ∷ flat_map entry entries ∷ [])
 
-pub record IsEntryOf (e : Entry) (v : View) : Type 0 where
+-- the entry's body is a class file with this view, or a module's, which has none
+pub record IsEntryOf (e : Entry) (r : Option View) : Type 0 where
   pub path : is_path e.path ≡ true
   pub class : is_class_path e.path ≡ true
   pub few : length e.body < 2 ^ 32
-  pub reads : Reads e.body v
+  pub reads : Reads e.body r
 
--- The bytes are a bundle, and these are the views of its class files, in its order.
+abbrev pub some_of : Option View → List View
+some_of None = []
+some_of (Some v) = v ∷ []
+
+-- the views among these
+abbrev pub views_of : List (Option View) → List View
+views_of reads = flat_map some_of reads
+
+-- The bytes are a bundle, and these are the views of its class files but modules, in its order.
 pub record Content (bytes : List ℕ) (views : List View) : Type 0 where
   pub entries : List Entry
   pub spelled : bytes ≡ bundle entries
   pub few : length entries < 2 ^ 32
-  pub each : AllZip IsEntryOf entries views
+  pub reads : List (Option View)
+  pub each : AllZip IsEntryOf entries reads
+  pub views_are : views ≡ views_of reads
   pub distinct : AllPairs (λ p q. p ≢ q) (map (λ e. e.path) entries)
   pub few_sites : sites_of_all views ≤ 4000000
 
@@ -57,7 +68,7 @@ abbrev pub built : {A : Type 0} → Result A ClassFault → Result A BundleFault
 built (Ok x) = Ok x
 built (Err f) = Err NotBuilt
 
-unfoldable pub body_at : List ℕ → ℕ → Result (View × ℕ) BundleFault
+unfoldable pub body_at : List ℕ → ℕ → Result (Option View × ℕ) BundleFault
 body_at bytes at = do
   n ← u4_at NotBuilt bytes at
   body ← part_at NotBuilt bytes (at + 4) n
@@ -73,13 +84,18 @@ pub record Begun : Type 0 where
   pub paths : List (List ℕ)
   pub room : ℕ
 
-unfoldable pub entry_at : List ℕ → ℕ → Begun → Result (View × Begun) BundleFault
+-- the sites of a view, where there is one
+abbrev pub sites_in : Option View → ℕ
+sites_in None = 0
+sites_in (Some v) = site_count v.methods
+
+unfoldable pub entry_at : List ℕ → ℕ → Begun → Result (Option View × Begun) BundleFault
 entry_at bytes k begun = do
   path ← path_at bytes begun.at
   fresh ← unless_broken (not (list_any (λ p. is_same p path.0) begun.paths)) NotBuilt
   body ← body_at bytes path.1
-  few ← unless_broken (nat_le (site_count body.0.methods) begun.room) NotBuilt
-  Ok (body.0, record { at = body.1; paths = begun.paths ++ path.0 ∷ []; room = begun.room - site_count body.0.methods })
+  few ← unless_broken (nat_le (sites_in body.0) begun.room) NotBuilt
+  Ok (body.0, record { at = body.1; paths = begun.paths ++ path.0 ∷ []; room = begun.room - sites_in body.0 })
 
 -- FCGB, version 1, the entries, and nothing after them
 unfoldable pub entries_of : List ℕ → Result (List View) BundleFault
@@ -91,7 +107,7 @@ entries_of bytes = do
   count ← u4_at NotBuilt bytes 6
   read ← rows (entry_at bytes) count 0 (record { at = 10; paths = []; room = 4000000 })
   ended ← unless_broken (length bytes == read.1.at) NotBuilt
-  Ok read.0
+  Ok (views_of read.0)
 
 -- `PK`, 3, 4
 abbrev pub is_jar : List ℕ → Bool

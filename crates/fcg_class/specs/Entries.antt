@@ -1,5 +1,5 @@
 -- What the reader of a bundle's entries answers.
-use Rattle.std.specs.Prelude.{◌≡◌, ℕ, List, [], ◌∷◌, ◌++◌, Result, Ok, Err}
+use Rattle.std.specs.Prelude.{◌≡◌, ℕ, List, [], ◌∷◌, ◌++◌, Option, Result, Ok, Err}
 use Rattle.std.specs.Borrow.{Bor}
 use Rattle.std.specs.List.{list_any}
 use Rattle.std.specs.Ordering.{nat_cmp}
@@ -15,7 +15,7 @@ use Rattle.fcg_views.specs.declared.fault.ClassFault.{ClassFault}
 use Rattle.fcg_class.specs.declared.bundle.Ahead.{Ahead}
 use Rattle.fcg_class.specs.declared.bundle.BundleFault.{BundleFault}
 use Rattle.fcg_class.specs.declared.bundle.BundleFault.TheVariants.{NotBuilt}
-use Rattle.fcg_class.specs.Bundle.{Begun, is_same}
+use Rattle.fcg_class.specs.Bundle.{views_of, Begun, is_same}
 
 abbrev pub path_cmp : Bor (List ℕ) → Bor (List ℕ) → Ordering
 path_cmp x y = slice_cmp nat_cmp x.now y.now
@@ -31,8 +31,8 @@ begun ahead paths = record { at = ahead.at; paths = paths; room = ahead.room }
 abbrev pub start : ℕ → Begun
 start at = record { at = at; paths = []; room = 4000000 }
 
--- a view more, and what is ahead after its entry, whose path is in the set; or the fault
-abbrev pub GivesEntry : Result (View × Ahead) (ReadError BundleFault) → BTreeSet (Bor (List ℕ)) → List (List ℕ) → Result (View × Begun) BundleFault → Type 0
+-- an entry more, and what is ahead after its entry, whose path is in the set; or the fault
+abbrev pub GivesEntry : Result (Option View × Ahead) (ReadError BundleFault) → BTreeSet (Bor (List ℕ)) → List (List ℕ) → Result (Option View × Begun) BundleFault → Type 0
 GivesEntry (Ok x) set paths read = (path : List ℕ) × ArePaths set (paths ++ path ∷ []) × (read ≡ Ok (x.0, begun x.1 (paths ++ path ∷ [])))
 GivesEntry (Err e) set paths read = Fails e read
 
@@ -42,6 +42,6 @@ told errors.NoMemory = errors.NoMemory
 told (errors.Fault f) = errors.Fault NotBuilt
 
 -- The views of some entries, and the place after them, whatever their paths; or the fault.
-abbrev pub GivesEntries : Result (List View × ℕ) (ReadError BundleFault) → Result (List View × Begun) BundleFault → Type 0
-GivesEntries (Ok x) read = (paths : List (List ℕ)) × (room : ℕ) × (read ≡ Ok (x.0, record { at = x.1; paths = paths; room = room }))
+abbrev pub GivesEntries : Result (List View × ℕ) (ReadError BundleFault) → Result (List (Option View) × Begun) BundleFault → Type 0
+GivesEntries (Ok x) read = (reads : List (Option View)) × (paths : List (List ℕ)) × (room : ℕ) × (x.0 ≡ views_of reads) × (read ≡ Ok (reads, record { at = x.1; paths = paths; room = room }))
 GivesEntries (Err e) read = Fails e read

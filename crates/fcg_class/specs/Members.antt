@@ -1,4 +1,4 @@
--- What the reader of methods answers.
+-- What the readers of fields and methods answer.
 use Rattle.std.specs.Prelude.{◌≡◌, ℕ, List, [], ◌∷◌, ◌++◌, Option, Result, Ok, Err}
 use Rattle.fcg_grammar.specs.declared.error.ReadError.{ReadError}
 use Rattle.fcg_grammar.specs.Reading.{Fails}
@@ -6,12 +6,13 @@ use Rattle.fcg_views.specs.declared.view.Method.{Method}
 use Rattle.fcg_views.specs.declared.view.Site.{Site}
 use Rattle.fcg_views.specs.declared.fault.ClassFault.{ClassFault}
 use Rattle.fcg_views.specs.Breaks.Pool.{Entries, text_of}
+use Rattle.fcg_views.specs.Breaks.Members as members
 use Rattle.fcg_views.specs.Breaks.Members.{CodeBegun, Begun}
-use Rattle.fcg_class.specs.declared.members.Declared.{Declared}
+use Rattle.fcg_class.specs.declared.declared.Declared.{Declared}
 
--- the method that a row declares, without its sites
-abbrev pub method_of : Declared → Method
-method_of d = record { name = d.name.bytes.now; desc = d.desc.bytes.now; flags = d.flags; sites = [] }
+-- what the code declares, as that of the definition
+abbrev pub declared_of : Declared → members.Declared
+declared_of d = record { flags = d.flags; name = d.name.bytes.now; desc = d.desc.bytes.now }
 
 -- its texts are those of their indexes
 abbrev pub AreTextsOf : Entries → Declared → Type 0

@@ -1,7 +1,9 @@
 -- What is known of a pool's texts: the names that were made of them, and the descriptors that were found.
-use Rattle.std.specs.Prelude.{◌≡◌, ℕ, List, Bool, true, false, slice_index_or, Option, Some, None, Ok}
-use Rattle.fcg_views.specs.DescSteps.{is_descriptor}
+use Rattle.std.specs.Prelude.{◌≡◌, ℕ, List, Bool, true, false, [], slice_index_or, Option, Some, None, Ok}
+use Rattle.fcg_views.specs.DescSteps.{is_descriptor, is_field_descriptor}
 use Rattle.fcg_views.specs.Breaks.Pool.{Entries, text_of}
+use Rattle.fcg_class.specs.declared.names.DescKind.{DescKind}
+use Rattle.fcg_class.specs.declared.names.DescKind.TheVariants.{Field, Method}
 
 -- a name that was made is the text of the Utf8 at its index
 abbrev pub AreNames : Entries → List (Option (List ℕ)) → Type 0
@@ -11,14 +13,29 @@ AreNames pool made = (i : ℕ) (name : List ℕ) → slice_index_or made i None 
 abbrev pub AllWithoutName : List (Option (List ℕ)) → Type 0
 AllWithoutName made = (i : ℕ) → slice_index_or made i None ≡ None
 
+-- whether a text is a descriptor of a kind
+abbrev pub is_of_kind : DescKind → List ℕ → Bool
+is_of_kind Field = is_field_descriptor
+is_of_kind Method = is_descriptor
+
 -- what was found to be a descriptor is one
-abbrev pub AreTyped : Entries → List Bool → Type 0
-AreTyped pool typed = (i : ℕ) (text : List ℕ) → slice_index_or typed i false ≡ true → text_of pool i ≡ Ok text → is_descriptor text ≡ true
+abbrev pub AreTyped : Entries → DescKind → List Bool → Type 0
+AreTyped pool kind typed = (i : ℕ) (text : List ℕ) → slice_index_or typed i false ≡ true → text_of pool i ≡ Ok text → is_of_kind kind text ≡ true
 
 -- nothing was found
 abbrev pub AllUntyped : List Bool → Type 0
 AllUntyped typed = (i : ℕ) → slice_index_or typed i false ≡ false
 
-pub record IsKnown (pool : Entries) (made : List (Option (List ℕ))) (typed : List Bool) : Type 0 where
+-- the descriptors of a pool that are of a kind
+pub record Descs : Type 0 where
+  pub pool : Entries
+  pub kind : DescKind
+
+abbrev pub descs : Entries → DescKind → Descs
+descs pool kind = record { pool = pool; kind = kind }
+
+pub record IsKnown (pool : Entries) (made : List (Option (List ℕ))) (empty : List ℕ) (fields methods : Descs) : Type 0 where
   pub names_are : AreNames pool made
-  pub typed_are : AreTyped pool typed
+  pub empty_is : empty ≡ []
+  pub fields_are : fields ≡ descs pool Field
+  pub methods_are : methods ≡ descs pool Method

@@ -1,17 +1,17 @@
 //! Bundles of class files.
-ghost use Rattle.std.specs.Prelude.{◌≡◌, ◌≤◌, ◌↔◌, ℕ, List, [], length, IfOk, IsTrue, IsErrOf};
+ghost use Rattle.std.specs.Prelude.{◌≡◌, ◌≤◌, ◌↔◌, ◌++◌, ℕ, List, [], length, OnOk, IfOk, IsTrue, IsErrOf};
 ghost use Rattle.std.specs.List.{All};
 ghost use Rattle.fcg_grammar.specs.Reading.{seen, Gives};
 ghost use Rattle.fcg_grammar.specs.Rows.{rows};
-ghost use Rattle.fcg_views.specs.Valid.{IsValid};
+ghost use Rattle.fcg_views.specs.Valid.{IsValid, left_of};
 ghost use Rattle.fcg_class.specs.Entries.{told, begun, start, ArePaths, GivesEntry, GivesEntries};
-ghost use Rattle.fcg_class.specs.Bundle.{Content, path_at, body_at, entry_at, entries_of, bundle_of, is_jar};
+ghost use Rattle.fcg_class.specs.Bundle.{Content, some_of, sites_in, path_at, body_at, entry_at, entries_of, bundle_of, is_jar};
 
 use crate::class::read_class;
 use crate::path::{is_class_path, is_path};
 use fcg_grammar::{ReadError, read_part, read_u2, read_u4};
 use fcg_views::{ClassFault, View, Views, sites_left};
-use std::alloc::Global;
+use std::alloc::{AllocError, Global};
 use std::collections::BTreeSet;
 
 // The most sites of the views of a bundle.
@@ -62,13 +62,13 @@ fn read_path(bytes: &[u8], at: usize) -> Result<(&[u8], usize), BundleFault>
     Ok((path, at + 2 + len))
 }
 
-// The view of the class file whose length stands at a place, and the place after it.
+// The view of the class file whose length stands at a place, which a module has not, and the place after it.
 #[tactic(auto, unfolding(crate::specs::Bundle::body_at))]
 fn read_body(
     alloc: Global,
     bytes: &[u8],
     at: usize,
-) -> Result<(View, usize), ReadError<BundleFault>>
+) -> Result<(Option<View>, usize), ReadError<BundleFault>>
     requires { at ≤ length bytes.now }
     ensures value { Gives (λ x. (x.0, x.1)) result (body_at bytes.now at) }
     ensures inside { IfOk result (λ x. x.1 ≤ length bytes.now) }
@@ -88,6 +88,16 @@ struct Ahead {
     room: usize,
 }
 
+// How many sites the views may still have after this one, or `None` where it has more than that. A module has none.
+fn room_after(room: usize, view: &Option<View>) -> Option<usize>
+    ensures { result ≡ left_of room (sites_in view.now) }
+{
+    match view {
+        Some(view) => sites_left(room, view.methods.as_slice()),
+        None => Some(room),
+    }
+}
+
 // The view of the next entry, and what is ahead after it. Its path is added to those before it.
 #[tactic(auto, unfolding(crate::specs::Bundle::entry_at))]
 fn read_entry<'a>(
@@ -95,7 +105,7 @@ fn read_entry<'a>(
     bytes: &'a [u8],
     paths: &mut BTreeSet<&'a [u8]>,
     ahead: Ahead,
-) -> Result<(View, Ahead), ReadError<BundleFault>>
+) -> Result<(Option<View>, Ahead), ReadError<BundleFault>>
     requires { ahead.at ≤ length bytes.now }
     ensures value { (k : ℕ) (before : List (List ℕ)) → ArePaths paths.old before → GivesEntry result paths.new before (entry_at bytes.now k (begun ahead before)) }
     ensures inside { IfOk result (λ x. x.1.at ≤ length bytes.now) }
@@ -105,10 +115,20 @@ fn read_entry<'a>(
         return Err(ReadError::Fault(BundleFault::NotBuilt));
     }
     let (view, at) = read_body(alloc, bytes, after)?;
-    match sites_left(ahead.room, view.methods.as_slice()) {
+    match room_after(ahead.room, &view) {
         Some(room) => Ok((view, Ahead { at, room })),
         None => Err(ReadError::Fault(BundleFault::NotBuilt)),
     }
+}
+
+// Adds a view, where there is one.
+fn push_view(views: &mut Vec<View>, view: Option<View>) -> Result<(), AllocError>
+    ensures { OnOk result (views.new.items ≡ views.old.items ++ some_of view) }
+{
+    if let Some(view) = view {
+        views.push(view)?;
+    }
+    Ok(())
 }
 
 // The views of so many entries, and the place after them.
@@ -130,7 +150,7 @@ fn read_entries(
     };
     for _ in 0..count {
         let (view, after) = read_entry(alloc, bytes, &mut paths, ahead)?;
-        views.push(view)?;
+        push_view(&mut views, view)?;
         ahead = after;
     }
     Ok((Views::from(views), ahead.at))

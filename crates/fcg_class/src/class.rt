@@ -1,13 +1,14 @@
 //! Class files.
-ghost use Rattle.std.specs.Prelude.{◌≡◌, ◌≤◌, ◌+◌, ℕ, length, OnOk, IfOk};
+ghost use Rattle.std.specs.Prelude.{◌≡◌, ◌≤◌, ◌+◌, ℕ, length, Option, OnOk, IfOk};
 ghost use Rattle.fcg_grammar.specs.Reading.{Gives};
 ghost use Rattle.fcg_grammar.specs.Rows.{rows};
 ghost use Rattle.fcg_views.specs.Reads.{Reads};
 ghost use Rattle.fcg_views.specs.Breaks.Fault.{in_pool};
 ghost use Rattle.fcg_views.specs.Breaks.Pool.{pool_at};
-ghost use Rattle.fcg_views.specs.Breaks.Class.{header_kept, type_at, super_at, interface_at, interfaces_at, flags_at, fields_at, members_at, body_at, class_of};
+ghost use Rattle.fcg_views.specs.Breaks.Class.{header_kept, type_at, super_at, interface_at, interfaces_at, members_at, body_at, shown, class_of};
 
 use crate::attributes::pass_attributes;
+use crate::fields::read_fields;
 use crate::members::read_methods;
 use crate::names::ClassNames;
 use crate::number::{read_u2, read_u4};
@@ -141,53 +142,24 @@ fn read_interfaces(
     Ok((Names::from(interfaces), after))
 }
 
-// The access flags of a type that is no module.
-#[tactic(auto, unfolding(fcg_views::specs::Breaks::Class::flags_at))]
-fn read_flags(pool: &Pool<'_>, at: usize) -> Result<u16, ClassFault>
-    requires { at ≤ length pool.now.bytes }
-    ensures value { result ≡ flags_at pool.now at }
-    ensures inside { OnOk result (at + 2 ≤ length pool.now.bytes) }
-{
-    let flags = read_u2(pool.bytes(), at, 0)?;
-    if flags >= 0x8000 {
-        return Err(fault_at(at, 0, ClassRule::NotBuilt));
-    }
-    Ok(flags)
-}
-
-// The place after the fields, of which there are none.
-#[tactic(auto, unfolding(fcg_views::specs::Breaks::Class::fields_at))]
-fn pass_fields(pool: &Pool<'_>, at: usize) -> Result<usize, ClassFault>
-    requires { at ≤ length pool.now.bytes }
-    ensures value { result ≡ fields_at pool.now at }
-    ensures inside { IfOk result (λ after. after ≤ length pool.now.bytes) }
-{
-    let bytes = pool.bytes();
-    prove!(at <= bytes.len());
-    if read_u2(bytes, at, 0)? != 0 {
-        return Err(fault_at(at, 0, ClassRule::NotBuilt));
-    }
-    Ok(at + 2)
-}
-
-// The methods, and what stands after them up to the file's end.
+// The fields and the methods, and what stands after them up to the file's end.
 #[tactic(auto, unfolding(fcg_views::specs::Breaks::Class::members_at))]
 fn read_members(
     alloc: Global,
     names: &mut ClassNames<'_>,
     at: usize,
-) -> Result<Methods, ReadError<ClassFault>>
+) -> Result<(Fields, Methods), ReadError<ClassFault>>
     requires { at ≤ length names.old.bytes }
-    ensures { Gives (λ methods. methods) result (members_at names.old at) }
+    ensures { Gives (λ x. (x.0, x.1)) result (members_at names.old at) }
 {
     let pool = names.pool();
-    let methods_at = pass_fields(pool, at)?;
+    let (fields, methods_at) = read_fields(alloc, names, at)?;
     let (methods, after) = read_methods(alloc, names, methods_at)?;
     let end = pass_attributes(pool, pool.bytes(), after)?;
     if pool.bytes().len() != end {
         return Err(ReadError::Fault(fault_at(end, 0, ClassRule::Trailing)));
     }
-    Ok(methods)
+    Ok((fields, methods))
 }
 
 // What stands after the pool.
@@ -202,39 +174,51 @@ fn read_body(
 {
     let bytes = names.pool().bytes();
     prove!(at <= bytes.len());
-    let flags = read_flags(names.pool(), at)?;
+    let flags = read_u2(bytes, at, 0)?;
     let name = read_type(alloc, names, at + 2)?;
     let superclass = read_super(alloc, names, at + 4)?;
     let (interfaces, after) = read_interfaces(alloc, names, at + 6)?;
-    let methods = read_members(alloc, names, after)?;
+    let (fields, methods) = read_members(alloc, names, after)?;
     Ok(View {
         name,
         flags,
         superclass,
         interfaces,
-        fields: Fields::from(Vec::new(alloc)),
+        fields,
         methods,
     })
 }
 
+// A module has no view.
+fn shown(view: View) -> Option<View>
+    ensures { result ≡ shown view }
+{
+    if view.flags < 0x8000 {
+        Some(view)
+    } else {
+        None
+    }
+}
+
 #[tactic(auto, unfolding(fcg_views::specs::Breaks::Class::class_of))]
-fn read_whole(alloc: Global, bytes: &[u8]) -> Result<View, ReadError<ClassFault>>
+fn read_whole(alloc: Global, bytes: &[u8]) -> Result<Option<View>, ReadError<ClassFault>>
     ensures { Gives (λ view. view) result (class_of bytes.now) }
 {
     read_header(bytes)?;
     let (pool, after) = read_pool(alloc, bytes, 8)?;
     let mut names = ClassNames::new(alloc, &pool)?;
-    read_body(alloc, &mut names, after)
+    let view = read_body(alloc, &mut names, after)?;
+    Ok(shown(view))
 }
 
-/// The view of a class file (JVMS 4.1), or its first fault in reading order. It makes one pass over the bytes, and for
-/// each method some comparisons more, about the logarithm of the number of methods. It takes memory for the pool's
-/// entries and for the view.
-pub fn read_class(alloc: Global, bytes: &[u8]) -> Result<View, ReadError<ClassFault>>
+/// The view of a class file (JVMS 4.1), or `None` for a module, or its first fault in reading order. It makes one pass
+/// over the bytes, and for each method some comparisons more, about the logarithm of the number of methods. It takes
+/// memory for the pool's entries and for the view.
+pub fn read_class(alloc: Global, bytes: &[u8]) -> Result<Option<View>, ReadError<ClassFault>>
     // What is read is a class file with that view.
     ensures found { IfOk result (Reads bytes.now) }
     // A class file is read with its view, unless memory runs out.
-    ensures only { (view : View) → Reads bytes.now view → Gives (λ v. v) result (Ok view) }
+    ensures only { (view : Option View) → Reads bytes.now view → Gives (λ v. v) result (Ok view) }
     // Which fault it is.
     ensures exact { Gives (λ view. view) result (class_of bytes.now) }
 {

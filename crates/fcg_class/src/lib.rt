@@ -7,6 +7,8 @@ mod attributes;
 mod bundle;
 mod class;
 mod code;
+mod declared;
+mod fields;
 mod firsts;
 mod laws;
 mod members;

@@ -1,50 +1,19 @@
 //! Methods (JVMS 4.6).
-ghost use Rattle.std.specs.Prelude.{◌≡◌, ◌≤◌, ◌+◌, ℕ, [], length, None, OnOk, IfOk};
-ghost use Rattle.fcg_grammar.specs.Reading.{seen, Gives};
+ghost use Rattle.std.specs.Prelude.{◌≡◌, ◌≤◌, ◌+◌, ℕ, [], length, None, IfOk};
+ghost use Rattle.fcg_grammar.specs.Reading.{Gives};
 ghost use Rattle.fcg_grammar.specs.Rows.{rows, ended};
-ghost use Rattle.fcg_views.specs.Breaks.Members.{method_attribute_at, method_attributes_at, or_none, with_sites, declared_at, method_at, methods_at};
-ghost use Rattle.fcg_class.specs.Members.{method_of, AreTextsOf, GivesNext, begun, code_begun};
+ghost use Rattle.fcg_views.specs.Breaks.Members.{method_attribute_at, method_attributes_at, or_none, method_of, method_at, methods_at};
+ghost use Rattle.fcg_class.specs.Members.{declared_of, AreTextsOf, GivesNext, begun, code_begun};
 
 use crate::attributes::{find_named, is_code, pass_content};
 use crate::code::read_code;
+use crate::declared::{Declared, find_declared};
 use crate::methods::MethodTable;
-use crate::names::ClassNames;
+use crate::names::{ClassNames, DescKind};
 use crate::number::read_u2;
-use crate::text::{Text, find_text};
 use fcg_grammar::ReadError;
-use fcg_pool::Pool;
 use fcg_views::{ClassFault, ClassRule, Method, Methods, NoMemory, Sites, fault_at};
 use std::alloc::Global;
-
-// What the row of a method declares.
-#[derive(Drop)]
-struct Declared<'a> {
-    flags: u16,
-    name: Text<'a>,
-    desc: Text<'a>,
-}
-
-// The flags, the name and the descriptor of the method that stands at a place.
-#[tactic(auto, unfolding(fcg_views::specs::Breaks::Members::declared_at))]
-fn find_declared<'a>(names: &mut ClassNames<'a>, at: usize) -> Result<Declared<'a>, ClassFault>
-    requires { at ≤ length names.old.bytes }
-    ensures value { seen method_of result ≡ declared_at names.old at }
-    ensures named { IfOk result (AreTextsOf names.old) }
-    ensures inside { OnOk result (at + 6 ≤ length names.old.bytes) }
-    ensures same { names.new ≡ names.old }
-{
-    let pool = names.pool();
-    let flags = read_u2(pool.bytes(), at, 0)?;
-    let name = find_text(pool, pool.bytes(), at + 2)?;
-    if name.bytes.is_empty() {
-        return Err(fault_at(at + 2, 0, ClassRule::EmptyName));
-    }
-    let desc = find_text(pool, pool.bytes(), at + 4)?;
-    if !names.is_descriptor(&desc) {
-        return Err(fault_at(at + 4, 0, ClassRule::Descriptor));
-    }
-    Ok(Declared { flags, name, desc })
-}
 
 // The place after the attribute that stands at a place, and the sites of the code so far. A method's second Code is the
 // fault `DoubleCode`.
@@ -139,7 +108,7 @@ fn make_method(
     sites: Sites,
 ) -> Result<Method, NoMemory>
     requires { AreTextsOf names.old declared.now }
-    ensures ok { IfOk result (λ method. method ≡ with_sites (method_of declared.now) sites) }
+    ensures ok { IfOk result (λ method. method ≡ method_of (declared_of declared.now) sites) }
     ensures same { names.new ≡ names.old }
 {
     let name = names.name(alloc, &declared.name)?;
@@ -168,7 +137,7 @@ fn read_method<'a>(
 {
     let bytes = table.pool().bytes();
     prove!(at <= bytes.len());
-    let declared = find_declared(names, at)?;
+    let declared = find_declared(names, DescKind::Method, at)?;
     if table.has(&declared.name, &declared.desc) {
         return Err(ReadError::Fault(fault_at(at, 0, ClassRule::DoubleMethod)));
     }

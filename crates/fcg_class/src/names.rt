@@ -1,24 +1,33 @@
 //! The texts of a class file: the name of each is made once, and a descriptor is read once.
-ghost use Rattle.std.specs.Prelude.{◌≡◌, Ok, IfOk, None, option_copied, slice_index_or};
-ghost use Rattle.fcg_views.specs.DescSteps.{is_descriptor};
+ghost use Rattle.std.specs.Prelude.{◌≡◌, Ok, IfOk, None, [], option_copied, slice_index_or};
 ghost use Rattle.fcg_views.specs.Breaks.Pool.{text_of};
-ghost use Rattle.fcg_class.specs.Names.{AllWithoutName, AllUntyped};
+ghost use Rattle.fcg_class.specs.Names.{AllWithoutName, AllUntyped, is_of_kind, descs};
 
 use crate::text::Text;
 use fcg_pool::Pool;
-use fcg_views::{Name, NoMemory, read_descriptor};
+use fcg_views::{Name, NoMemory, read_descriptor, read_field_descriptor};
 use std::alloc::{AllocError, Global};
 use std::marker::Model;
 
+/// A kind of descriptors.
+#[derive(Clone, Copy)]
+pub enum DescKind {
+    /// A field descriptor (JVMS 4.3.2).
+    Field,
+    /// A method descriptor (JVMS 4.3.3).
+    Method,
+}
+
 /// The constant pool of a class file, with what is known of its texts: the names that were made of them, one a Utf8
-/// however often it is used, and which were found to be method descriptors.
+/// however often it is used, and which were found to be field descriptors and method descriptors.
 #[derive(Drop)]
 pub struct ClassNames<'a> {
     pool: &'a Pool<'a>,
     // by the index of the Utf8
     made: Vec<Option<Name>>,
-    // by the index of the Utf8, whether it was found to be a method descriptor
-    typed: Vec<bool>,
+    empty: Name,
+    fields: FoundDescs<'a>,
+    methods: FoundDescs<'a>,
 }
 
 impl<'a> Model for ClassNames<'a> {
@@ -29,17 +38,25 @@ impl<'a> Model for ClassNames<'a> {
 
     ghost view = { λ n. n.pool.now };
 
-    ghost invariant = { λ n. IsKnown n.pool.now n.made.items n.typed.items };
+    ghost invariant = { λ n. IsKnown n.pool.now n.made.items n.empty n.fields n.methods };
 }
 
 impl<'a> ClassNames<'a> {
     /// No name is made yet, and no descriptor read. It takes memory for each index of the pool.
-    pub fn new(alloc: Global, pool: &'a Pool<'a>) -> Result<ClassNames<'a>, AllocError>
+    pub fn new(alloc: Global, pool: &'a Pool<'a>) -> Result<ClassNames<'a>, NoMemory>
         ensures { IfOk result (λ names. names ≡ pool.now) }
     {
         let made = unmade(alloc, pool.len() + 1)?;
-        let typed = untyped(alloc, pool.len() + 1)?;
-        Ok(ClassNames { pool, made, typed })
+        let empty = Name::from_slice(alloc, &[])?;
+        let fields = FoundDescs::new(alloc, pool, DescKind::Field)?;
+        let methods = FoundDescs::new(alloc, pool, DescKind::Method)?;
+        Ok(ClassNames {
+            pool,
+            made,
+            empty,
+            fields,
+            methods,
+        })
     }
 
     /// The constant pool.
@@ -47,6 +64,13 @@ impl<'a> ClassNames<'a> {
         ensures { result.now ≡ self.now }
     {
         self.pool
+    }
+
+    /// The name without a byte.
+    pub fn empty_name(&self) -> Result<Name, AllocError>
+        ensures { IfOk result (λ name. name ≡ []) }
+    {
+        self.empty.clone()
     }
 
     /// The name of a text.
@@ -66,21 +90,72 @@ impl<'a> ClassNames<'a> {
         Ok(name)
     }
 
-    /// Whether a text is a method descriptor. One that is is read once, however often it is asked for.
-    pub fn is_descriptor(&mut self, text: &Text<'_>) -> bool
+    /// Whether a text is a descriptor of a kind. One that is is read once, however often it is asked for.
+    pub fn is_descriptor(&mut self, kind: DescKind, text: &Text<'_>) -> bool
         requires { text_of self.old text.now.index ≡ Ok text.now.bytes.now }
-        ensures value { result ≡ is_descriptor text.now.bytes.now }
+        ensures value { result ≡ is_of_kind kind text.now.bytes.now }
+        ensures same { self.new ≡ self.old }
+    {
+        match kind {
+            DescKind::Field => self.fields.has(text),
+            DescKind::Method => self.methods.has(text),
+        }
+    }
+}
+
+// The texts of a pool that were found to be descriptors of a kind.
+#[derive(Drop)]
+struct FoundDescs<'a> {
+    pool: &'a Pool<'a>,
+    kind: DescKind,
+    // by the index of the Utf8, whether it was found to be one
+    typed: Vec<bool>,
+}
+
+impl<'a> Model for FoundDescs<'a> {
+    ghost use Rattle.fcg_class.specs.Names.{Descs, descs, AreTyped};
+
+    ghost Value = { Descs };
+
+    ghost view = { λ d. descs d.pool.now d.kind };
+
+    ghost invariant = { λ d. AreTyped d.pool.now d.kind d.typed.items };
+}
+
+impl<'a> FoundDescs<'a> {
+    // None was found yet.
+    fn new(alloc: Global, pool: &'a Pool<'a>, kind: DescKind) -> Result<FoundDescs<'a>, AllocError>
+        ensures { IfOk result (λ found. found ≡ descs pool.now kind) }
+    {
+        let typed = untyped(alloc, pool.len() + 1)?;
+        Ok(FoundDescs { pool, kind, typed })
+    }
+
+    // Whether a text is a descriptor of the kind. One that is is read once.
+    fn has(&mut self, text: &Text<'_>) -> bool
+        requires { text_of self.old.pool text.now.index ≡ Ok text.now.bytes.now }
+        ensures value { result ≡ is_of_kind self.old.kind text.now.bytes.now }
         ensures same { self.new ≡ self.old }
     {
         let index = usize::from(text.index);
         if let Some(true) = self.typed.get(index) {
             return true;
         }
-        let found = read_descriptor(text.bytes).is_ok();
+        let found = is_of_kind(self.kind, text.bytes);
         if found && let Some(typed) = self.typed.get_mut(index) {
             *typed = true;
         }
         found
+    }
+}
+
+// Whether the bytes are a descriptor of a kind.
+fn is_of_kind(kind: DescKind, bytes: &[u8]) -> bool
+    ensures { result ≡ is_of_kind kind bytes.now }
+{
+    match kind {
+        DescKind::Field => read_field_descriptor(bytes).is_ok(),
+        DescKind::Method => read_descriptor(bytes).is_ok(),
     }
 }
 

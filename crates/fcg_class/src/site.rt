@@ -1,15 +1,16 @@
-//! The call sites of a method's code (JVMS 6.5).
+//! The sites of a method's code: the instructions that name a method, a field or a type (JVMS 6.5).
 ghost use Rattle.std.specs.Prelude.{◌≡◌, ◌+◌, ◌<◌, ◌^◌, ℕ, List, IfOk, slice_index};
 ghost use Rattle.fcg_grammar.specs.Reading.{seen, Gives};
-ghost use Rattle.fcg_views.specs.Sites.{site_form, is_unread};
+ghost use Rattle.fcg_views.specs.Sites.{Class, site_form, is_unread};
 ghost use Rattle.fcg_views.specs.Breaks.Instructions.{operand_at};
 ghost use Rattle.fcg_views.specs.Breaks.Attributes.{over};
-ghost use Rattle.fcg_views.specs.Breaks.Code.{callee_of, site_of, sites_at};
-ghost use Rattle.fcg_pool.specs.Seen.{span_of, AreRefTexts};
-ghost use Rattle.fcg_class.specs.Sites.{site_list, form_in, form_seen};
+ghost use Rattle.fcg_views.specs.Breaks.Code.{member_of, target_of, sites_at};
+ghost use Rattle.fcg_pool.specs.Seen.{AreRefTexts};
+ghost use Rattle.fcg_class.specs.Names.{is_of_kind};
+ghost use Rattle.fcg_class.specs.Sites.{site_list, form_seen, named_in, ref_of};
 
-use crate::names::ClassNames;
-use crate::text::Text;
+use crate::names::{ClassNames, DescKind};
+use crate::text::{Text, find_type_of};
 use fcg_grammar::ReadError;
 use fcg_pool::{Instruction, RefTexts, is_one_of};
 use fcg_views::{ClassFault, ClassRule, NoMemory, Ref, Site, SiteKind, at_index, fault_at};
@@ -26,106 +27,165 @@ pub struct CodeSpan<'a> {
     pub bytes: &'a [u8],
 }
 
-// What the sites of an opcode have: their kind, and the tags that their references may have.
+// What a site names: a method, by a constant of one of these tags; a field; a type.
+#[derive(Clone, Copy)]
+enum Named {
+    Method(&'static [u8]),
+    Field,
+    Class,
+}
+
+// What the sites of an opcode have: their kind, and what they name.
 #[derive(Clone, Copy)]
 struct SiteForm {
     kind: SiteKind,
-    tags: &'static [u8],
+    named: Named,
 }
 
-// What the sites of an opcode have, or `None` where it calls nothing. A Methodref has the tag 10, an
-// InterfaceMethodref 11.
+// What the sites of an opcode have, or `None` where it has none. A Methodref has the tag 10, an InterfaceMethodref 11.
 fn form_of(opcode: u8) -> Option<SiteForm>
     ensures { form_seen result ≡ site_form opcode }
 {
-    let (kind, tags): (SiteKind, &'static [u8]) = match opcode {
-        182 => (SiteKind::Virtual, &[10]),
-        183 => (SiteKind::Special, &[10, 11]),
-        184 => (SiteKind::Static, &[10, 11]),
-        185 => (SiteKind::Interface, &[11]),
+    let (kind, named) = match opcode {
+        178 | 179 => (SiteKind::StaticField, Named::Field),
+        182 => (SiteKind::Virtual, Named::Method(&[10])),
+        183 => (SiteKind::Special, Named::Method(&[10, 11])),
+        184 => (SiteKind::Static, Named::Method(&[10, 11])),
+        185 => (SiteKind::Interface, Named::Method(&[11])),
+        187 => (SiteKind::New, Named::Class),
         _ => return None,
     };
-    Some(SiteForm { kind, tags })
+    Some(SiteForm { kind, named })
 }
 
-// Whether an opcode isn't read yet: `getstatic`, `putstatic`, `invokedynamic` and `new`.
+// Whether an opcode isn't read yet: `invokedynamic`.
 fn is_unread(opcode: u8) -> bool
     ensures { result ≡ is_unread opcode }
 {
-    matches!(opcode, 178 | 179 | 186 | 187)
+    opcode == 186
 }
 
-// The method that an index names, by a constant of one of these tags. A fault is at the given place of the file.
-#[tactic(auto, unfolding(fcg_views::specs::Breaks::Code::callee_of))]
-fn find_callee<'a>(
+// The member of a type that an index names, by a constant of one of these tags and with a descriptor of a kind. A fault
+// is at the given place of the file.
+#[tactic(auto, unfolding(fcg_views::specs::Breaks::Code::member_of))]
+fn find_member<'a>(
     names: &mut ClassNames<'a>,
+    kind: DescKind,
     tags: &[u8],
     at: usize,
     index: u16,
 ) -> Result<RefTexts<'a>, ClassFault>
-    ensures value { seen (λ callee. span_of callee.span) result ≡ callee_of names.old tags.now at index }
+    ensures value { seen ref_of result ≡ member_of names.old (is_of_kind kind) tags.now at index }
     ensures named { IfOk result (AreRefTexts names.old) }
     ensures same { names.new ≡ names.old }
 {
-    let callee = at_index(at, index, names.pool().reference_texts(index))?;
-    if !is_one_of(tags, callee.span.tag) {
+    let member = at_index(at, index, names.pool().reference_texts(index))?;
+    if !is_one_of(tags, member.span.tag) {
         return Err(fault_at(at, index, ClassRule::WrongKind));
     }
-    if callee.span.owner.is_empty() || callee.span.name.is_empty() {
+    if member.span.owner.is_empty() || member.span.name.is_empty() {
         return Err(fault_at(at, 0, ClassRule::EmptyName));
     }
     let desc = Text {
-        index: callee.desc,
-        bytes: callee.span.desc,
+        index: member.desc,
+        bytes: member.span.desc,
     };
-    if !names.is_descriptor(&desc) {
+    if !names.is_descriptor(kind, &desc) {
         return Err(fault_at(at, 0, ClassRule::Descriptor));
     }
-    Ok(callee)
+    Ok(member)
 }
 
-// The site at a place of the code that names a method.
-fn make_site(
+// A member of a type, with names of its own.
+fn make_ref(
     alloc: Global,
     names: &mut ClassNames<'_>,
-    form: SiteForm,
-    pc: u16,
-    callee: &RefTexts<'_>,
-) -> Result<Site, NoMemory>
-    requires { AreRefTexts names.old callee.now }
-    ensures ok { IfOk result (λ site. site ≡ site_of (form_in form) pc (span_of callee.now.span)) }
+    member: &RefTexts<'_>,
+) -> Result<Ref, NoMemory>
+    requires { AreRefTexts names.old member.now }
+    ensures ok { IfOk result (λ target. target ≡ ref_of member.now) }
     ensures same { names.new ≡ names.old }
 {
     let owner = Text {
-        index: callee.owner,
-        bytes: callee.span.owner,
+        index: member.owner,
+        bytes: member.span.owner,
     };
     let name = Text {
-        index: callee.name,
-        bytes: callee.span.name,
+        index: member.name,
+        bytes: member.span.name,
     };
     let desc = Text {
-        index: callee.desc,
-        bytes: callee.span.desc,
+        index: member.desc,
+        bytes: member.span.desc,
     };
-    Ok(Site {
-        pc,
-        kind: form.kind,
-        target: Ref {
-            owner: names.name(alloc, &owner)?,
-            owner_is_interface_ref: callee.span.tag == 11,
-            name: names.name(alloc, &name)?,
-            desc: names.name(alloc, &desc)?,
-        },
+    Ok(Ref {
+        owner: names.name(alloc, &owner)?,
+        owner_is_interface_ref: member.span.tag == 11,
+        name: names.name(alloc, &name)?,
+        desc: names.name(alloc, &desc)?,
     })
 }
 
-/// The site of the instruction whose opcode stands at a place of the code, or `None` where it calls nothing. `count` is
-/// the number of sites of the class before it.
+// The member of a type that an index names, by a constant of one of these tags and with a descriptor of a kind.
+fn read_member(
+    alloc: Global,
+    names: &mut ClassNames<'_>,
+    kind: DescKind,
+    tags: &[u8],
+    at: usize,
+    index: u16,
+) -> Result<Ref, ReadError<ClassFault>>
+    ensures value { Gives (λ target. target) result (member_of names.old (is_of_kind kind) tags.now at index) }
+    ensures same { names.new ≡ names.old }
+{
+    let member = find_member(names, kind, tags, at, index)?;
+    Ok(make_ref(alloc, names, &member)?)
+}
+
+// The type that an index names, without a member.
+fn read_class_ref(
+    alloc: Global,
+    names: &mut ClassNames<'_>,
+    at: usize,
+    index: u16,
+) -> Result<Ref, ReadError<ClassFault>>
+    ensures value { Gives (λ target. target) result (target_of names.old Class at index) }
+    ensures same { names.new ≡ names.old }
+{
+    let owner = find_type_of(names.pool(), at, index)?;
+    Ok(Ref {
+        owner: names.name(alloc, &owner)?,
+        owner_is_interface_ref: false,
+        name: names.empty_name()?,
+        desc: names.empty_name()?,
+    })
+}
+
+// What a site names by an index. A fault is at the given place of the file.
+fn read_target(
+    alloc: Global,
+    names: &mut ClassNames<'_>,
+    named: Named,
+    at: usize,
+    index: u16,
+) -> Result<Ref, ReadError<ClassFault>>
+    ensures value { Gives (λ target. target) result (target_of names.old (named_in named) at index) }
+    ensures same { names.new ≡ names.old }
+{
+    match named {
+        Named::Method(tags) => read_member(alloc, names, DescKind::Method, tags, at, index),
+        Named::Field => read_member(alloc, names, DescKind::Field, &[9], at, index),
+        Named::Class => read_class_ref(alloc, names, at, index),
+    }
+}
+
+/// The site of the instruction whose opcode stands at a place of the code, or `None` where it has none. `count` is the
+/// number of sites of the class before it.
 ///
 /// A fault is at the place of the opcode in the file. It is the first of these: the opcode isn't read yet; the operand,
-/// which is the fault's index, names no method reference that the opcode may have; the name of the type or of the
-/// method is empty; its descriptor is no method descriptor; the class has as many sites before as it may have.
+/// which is the fault's index, names nothing that the opcode may have, as a method reference, a field reference or a
+/// type; the name of the type, the method or the field is empty; the descriptor of a method is no method descriptor, or
+/// that of a field no field descriptor; the class has as many sites before as it may have.
 ///
 /// Takes constant time, but where a Utf8 is needed for the first time: then its bytes are copied or read once.
 #[tactic(auto, unfolding(fcg_views::specs::Breaks::Code::sites_at, fcg_views::specs::Breaks::Code::site_at), using(crate::proofs::SiteLemmas::sites_over))]
@@ -150,10 +210,13 @@ pub fn read_site(
     let Some(form) = form_of(instruction.opcode) else {
         return Ok(None);
     };
-    let callee = find_callee(names, form.tags, at, instruction.operand)?;
+    let target = read_target(alloc, names, form.named, at, instruction.operand)?;
     if count >= MOST_SITES {
         return Err(ReadError::Fault(fault_at(at, 0, ClassRule::ManySites)));
     }
-    let site = make_site(alloc, names, form, pc, &callee)?;
-    Ok(Some(site))
+    Ok(Some(Site {
+        pc,
+        kind: form.kind,
+        target,
+    }))
 }

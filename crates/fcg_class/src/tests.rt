@@ -1,7 +1,7 @@
 use crate::class::read_class;
 use crate::{BundleFault, read_bundle};
 use fcg_grammar::ReadError;
-use fcg_views::{ClassFault, ClassRule, SiteKind};
+use fcg_views::{ClassFault, ClassRule, SiteKind, View};
 use std::alloc::Global;
 use std::test::Fail;
 
@@ -40,7 +40,7 @@ const METHODS: [u8; 217] = [
 ];
 
 // A byte of it by its place, what it is changed to, and the fault: its rule, its place and the index of the pool.
-const CHANGES: [(usize, u8, ClassRule, u32, u16); 22] = [
+const CHANGES: [(usize, u8, ClassRule, u32, u16); 21] = [
     (3, 0xbf, ClassRule::Magic, 0, 0),
     (7, 44, ClassRule::Version, 6, 0),
     (7, 66, ClassRule::Version, 6, 0),
@@ -50,13 +50,13 @@ const CHANGES: [(usize, u8, ClassRule, u32, u16); 22] = [
     (19, 17, ClassRule::BadIndex, 17, 3),
     (19, 1, ClassRule::WrongKind, 17, 3),
     (16, 0x80, ClassRule::BadUtf8, 16, 2),
-    // the flags of a module, the type's index, its empty name, an interface's index, a field
-    (167, 0x80, ClassRule::NotBuilt, 167, 0),
+    // the type's index, its empty name, an interface's index, a count of the fields, of which the first is read where the
+    // methods stand
     (170, 0, ClassRule::BadIndex, 169, 0),
     (170, 15, ClassRule::WrongKind, 169, 15),
     (12, 15, ClassRule::EmptyName, 169, 0),
     (176, 7, ClassRule::WrongKind, 175, 7),
-    (178, 1, ClassRule::NotBuilt, 177, 0),
+    (178, 1, ClassRule::BadIndex, 181, 1025),
     // the methods: an empty name, the descriptor `()X`, a descriptor's index, a Code that is cut
     // before its length, the same twice
     (184, 15, ClassRule::EmptyName, 183, 0),
@@ -70,77 +70,112 @@ const CHANGES: [(usize, u8, ClassRule, u32, u16); 22] = [
     (214, 1, ClassRule::Trailing, 216, 0),
 ];
 
+// A class `T` without superclass that declares the fields `a` of type `I`, with an attribute ConstantValue, and `b` of type
+// `[LT;`. In its pool 8 is an empty text, 9 is `V` and 10 is `()V`.
+const FIELDS: [u8; 103] = [
+    0xca, 0xfe, 0xba, 0xbe, 0x00, 0x00, 0x00, 0x41, 0x00, 0x0b, 0x01, 0x00, 0x01, 0x54, 0x07, 0x00,
+    0x01, 0x01, 0x00, 0x01, 0x61, 0x01, 0x00, 0x01, 0x49, 0x01, 0x00, 0x01, 0x62, 0x01, 0x00, 0x04,
+    0x5b, 0x4c, 0x54, 0x3b, 0x01, 0x00, 0x0d, 0x43, 0x6f, 0x6e, 0x73, 0x74, 0x61, 0x6e, 0x74, 0x56,
+    0x61, 0x6c, 0x75, 0x65, 0x01, 0x00, 0x00, 0x01, 0x00, 0x01, 0x56, 0x01, 0x00, 0x03, 0x28, 0x29,
+    0x56, 0x00, 0x21, 0x00, 0x02, 0x00, 0x00, 0x00, 0x00, 0x00, 0x02, 0x00, 0x1a, 0x00, 0x03, 0x00,
+    0x04, 0x00, 0x01, 0x00, 0x07, 0x00, 0x00, 0x00, 0x02, 0x00, 0x04, 0x00, 0x02, 0x00, 0x05, 0x00,
+    0x06, 0x00, 0x00, 0x00, 0x00, 0x00, 0x00,
+];
+
+// As above, of its fields.
+const BROKEN_FIELDS: [(usize, u8, ClassRule, u32, u16); 7] = [
+    // of the first: an empty name, the descriptors `V` and `()V`, a descriptor that is no Utf8, the attribute's length
+    (78, 8, ClassRule::EmptyName, 77, 0),
+    (80, 9, ClassRule::Descriptor, 79, 0),
+    (80, 10, ClassRule::Descriptor, 79, 0),
+    (80, 2, ClassRule::WrongKind, 79, 2),
+    (88, 100, ClassRule::Cut, 89, 0),
+    // of the second: a name's index past the pool, the descriptor `a`
+    (94, 11, ClassRule::BadIndex, 93, 11),
+    (96, 3, ClassRule::Descriptor, 95, 0),
+];
+
 // A class `T` without superclass whose method `m()V` has the code `invokestatic` 7, `nop`, `return`. In its pool 6, 7 and 8
-// are a Fieldref, a Methodref and an InterfaceMethodref of this method; 14, 15 and 16 are Methodrefs with an empty type, an
-// empty name, and the descriptor `m`.
-const CALL: [u8; 130] = [
-    0xca, 0xfe, 0xba, 0xbe, 0x00, 0x00, 0x00, 0x41, 0x00, 0x11, 0x01, 0x00, 0x01, 0x54, 0x07, 0x00,
+// are a Fieldref, a Methodref and an InterfaceMethodref of `m` and `()V`; 14, 15 and 16 are Methodrefs with an empty type,
+// an empty name, and the descriptor `m`; 2 is `T`, 11 a type without a name, and 19 a Fieldref of `m` and `I`.
+const CALL: [u8; 144] = [
+    0xca, 0xfe, 0xba, 0xbe, 0x00, 0x00, 0x00, 0x41, 0x00, 0x14, 0x01, 0x00, 0x01, 0x54, 0x07, 0x00,
     0x01, 0x01, 0x00, 0x01, 0x6d, 0x01, 0x00, 0x03, 0x28, 0x29, 0x56, 0x0c, 0x00, 0x03, 0x00, 0x04,
     0x09, 0x00, 0x02, 0x00, 0x05, 0x0a, 0x00, 0x02, 0x00, 0x05, 0x0b, 0x00, 0x02, 0x00, 0x05, 0x01,
     0x00, 0x04, 0x43, 0x6f, 0x64, 0x65, 0x01, 0x00, 0x00, 0x07, 0x00, 0x0a, 0x0c, 0x00, 0x0a, 0x00,
     0x04, 0x0c, 0x00, 0x03, 0x00, 0x03, 0x0a, 0x00, 0x0b, 0x00, 0x05, 0x0a, 0x00, 0x02, 0x00, 0x0c,
-    0x0a, 0x00, 0x02, 0x00, 0x0d, 0x00, 0x21, 0x00, 0x02, 0x00, 0x00, 0x00, 0x00, 0x00, 0x00, 0x00,
-    0x01, 0x00, 0x09, 0x00, 0x03, 0x00, 0x04, 0x00, 0x01, 0x00, 0x09, 0x00, 0x00, 0x00, 0x11, 0x00,
-    0x00, 0x00, 0x00, 0x00, 0x00, 0x00, 0x05, 0xb8, 0x00, 0x07, 0x00, 0xb1, 0x00, 0x00, 0x00, 0x00,
-    0x00, 0x00,
+    0x0a, 0x00, 0x02, 0x00, 0x0d, 0x01, 0x00, 0x01, 0x49, 0x0c, 0x00, 0x03, 0x00, 0x11, 0x09, 0x00,
+    0x02, 0x00, 0x12, 0x00, 0x21, 0x00, 0x02, 0x00, 0x00, 0x00, 0x00, 0x00, 0x00, 0x00, 0x01, 0x00,
+    0x09, 0x00, 0x03, 0x00, 0x04, 0x00, 0x01, 0x00, 0x09, 0x00, 0x00, 0x00, 0x11, 0x00, 0x00, 0x00,
+    0x00, 0x00, 0x00, 0x00, 0x05, 0xb8, 0x00, 0x07, 0x00, 0xb1, 0x00, 0x00, 0x00, 0x00, 0x00, 0x00,
 ];
 
-// An opcode in place of its first, the index after it, and the site: its kind, and whether it names an interface's method.
-const SITES: [(u8, u8, SiteKind, bool); 6] = [
-    (182, 7, SiteKind::Virtual, false),
-    (183, 7, SiteKind::Special, false),
-    (183, 8, SiteKind::Special, true),
-    (184, 7, SiteKind::Static, false),
-    (184, 8, SiteKind::Static, true),
-    (185, 8, SiteKind::Interface, true),
+// An opcode in place of its first, the index after it, and the site: its kind, whether it names an interface's method, and
+// the name and the descriptor of what it names.
+const SITES: [(u8, u8, SiteKind, bool, &[u8], &[u8]); 9] = [
+    (182, 7, SiteKind::Virtual, false, b"m", b"()V"),
+    (183, 7, SiteKind::Special, false, b"m", b"()V"),
+    (183, 8, SiteKind::Special, true, b"m", b"()V"),
+    (184, 7, SiteKind::Static, false, b"m", b"()V"),
+    (184, 8, SiteKind::Static, true, b"m", b"()V"),
+    (185, 8, SiteKind::Interface, true, b"m", b"()V"),
+    (178, 19, SiteKind::StaticField, false, b"m", b"I"),
+    (179, 19, SiteKind::StaticField, false, b"m", b"I"),
+    (187, 2, SiteKind::New, false, b"", b""),
 ];
 
 // Two of its bytes by their places, what they are changed to, and the fault.
-const BROKEN_CODE: [(usize, u8, usize, u8, ClassRule, u32, u16); 29] = [
+const BROKEN_CODE: [(usize, u8, usize, u8, ClassRule, u32, u16); 30] = [
     // what an opcode may not name: a constant of another kind, index 0, an index past the pool
-    (119, 182, 121, 8, ClassRule::WrongKind, 119, 8),
-    (119, 182, 121, 6, ClassRule::WrongKind, 119, 6),
-    (119, 183, 121, 6, ClassRule::WrongKind, 119, 6),
-    (119, 184, 121, 6, ClassRule::WrongKind, 119, 6),
-    (119, 185, 121, 7, ClassRule::WrongKind, 119, 7),
-    (119, 185, 121, 6, ClassRule::WrongKind, 119, 6),
-    (119, 184, 121, 2, ClassRule::WrongKind, 119, 2),
-    (119, 184, 121, 0, ClassRule::BadIndex, 119, 0),
-    (119, 184, 121, 17, ClassRule::BadIndex, 119, 17),
+    (133, 182, 135, 8, ClassRule::WrongKind, 133, 8),
+    (133, 182, 135, 6, ClassRule::WrongKind, 133, 6),
+    (133, 183, 135, 6, ClassRule::WrongKind, 133, 6),
+    (133, 184, 135, 6, ClassRule::WrongKind, 133, 6),
+    (133, 185, 135, 7, ClassRule::WrongKind, 133, 7),
+    (133, 185, 135, 6, ClassRule::WrongKind, 133, 6),
+    (133, 184, 135, 2, ClassRule::WrongKind, 133, 2),
+    (133, 184, 135, 0, ClassRule::BadIndex, 133, 0),
+    (133, 184, 135, 20, ClassRule::BadIndex, 133, 20),
     // an empty type, an empty name, a bad descriptor
-    (119, 184, 121, 14, ClassRule::EmptyName, 119, 0),
-    (119, 184, 121, 15, ClassRule::EmptyName, 119, 0),
-    (119, 184, 121, 16, ClassRule::Descriptor, 119, 0),
-    // opcodes that aren't read yet
-    (119, 178, 121, 6, ClassRule::NotBuilt, 119, 0),
-    (119, 179, 121, 6, ClassRule::NotBuilt, 119, 0),
-    (119, 186, 121, 7, ClassRule::NotBuilt, 119, 0),
-    (119, 187, 121, 2, ClassRule::NotBuilt, 119, 0),
+    (133, 184, 135, 14, ClassRule::EmptyName, 133, 0),
+    (133, 184, 135, 15, ClassRule::EmptyName, 133, 0),
+    (133, 184, 135, 16, ClassRule::Descriptor, 133, 0),
+    // of a field: a Methodref, the descriptor `()V`; of a type: a Fieldref, an empty name
+    (133, 178, 135, 7, ClassRule::WrongKind, 133, 7),
+    (133, 179, 135, 6, ClassRule::Descriptor, 133, 0),
+    (133, 187, 135, 19, ClassRule::WrongKind, 133, 19),
+    (133, 187, 135, 11, ClassRule::EmptyName, 133, 0),
+    // an opcode that isn't read yet
+    (133, 186, 135, 7, ClassRule::NotBuilt, 133, 0),
     // instructions that break a rule, the last after the site
-    (119, 202, 121, 7, ClassRule::BadOpcode, 119, 0),
-    (119, 196, 121, 7, ClassRule::BadWide, 119, 0),
-    (119, 170, 121, 7, ClassRule::CodeCut, 119, 0),
-    (119, 184, 123, 17, ClassRule::CodeCut, 123, 0),
+    (133, 202, 135, 7, ClassRule::BadOpcode, 133, 0),
+    (133, 196, 135, 7, ClassRule::BadWide, 133, 0),
+    (133, 170, 135, 7, ClassRule::CodeCut, 133, 0),
+    (133, 184, 137, 17, ClassRule::CodeCut, 137, 0),
     // the length of the code: 0, and 65,541; 6, so that the count of the attributes passes the content
-    (118, 0, 121, 7, ClassRule::CodeLength, 115, 0),
-    (116, 1, 121, 7, ClassRule::CodeLength, 115, 0),
-    (118, 6, 121, 7, ClassRule::Cut, 127, 0),
+    (132, 0, 135, 7, ClassRule::CodeLength, 129, 0),
+    (130, 1, 135, 7, ClassRule::CodeLength, 129, 0),
+    (132, 6, 135, 7, ClassRule::Cut, 141, 0),
     // a row of the exception table, and an attribute, that pass the content
-    (125, 1, 121, 7, ClassRule::Cut, 126, 0),
-    (127, 1, 121, 7, ClassRule::Cut, 128, 0),
+    (139, 1, 135, 7, ClassRule::Cut, 140, 0),
+    (141, 1, 135, 7, ClassRule::Cut, 142, 0),
     // a content that is longer than the code needs, and that passes the file
-    (110, 18, 121, 7, ClassRule::Trailing, 128, 0),
-    (110, 20, 121, 7, ClassRule::Cut, 111, 0),
+    (124, 18, 135, 7, ClassRule::Trailing, 142, 0),
+    (124, 20, 135, 7, ClassRule::Cut, 125, 0),
     // another attribute than Code, whose name is no Utf8, or is missing
-    (106, 2, 121, 7, ClassRule::WrongKind, 105, 2),
-    (106, 0, 121, 7, ClassRule::BadIndex, 105, 0),
+    (120, 2, 135, 7, ClassRule::WrongKind, 119, 2),
+    (120, 0, 135, 7, ClassRule::BadIndex, 119, 0),
 ];
+
+// The view of a class file that is no module.
+fn view_of(alloc: Global, bytes: &[u8]) -> Result<View, Fail> {
+    let read = read_class(alloc, bytes).ok().ok_or("it is a class file")?;
+    Ok(read.ok_or("it is no module")?)
+}
 
 #[test]
 fn smallest(rt: HostRuntime) -> Result<(), Fail> {
-    let view = read_class(rt.alloc(), &SMALLEST)
-        .ok()
-        .ok_or("it is a class file")?;
+    let view = view_of(rt.alloc(), &SMALLEST)?;
     assert_eq!(rt; view.name.as_slice(), b"I".as_slice());
     assert_eq!(rt; view.flags, 0x0601);
     match &view.superclass {
@@ -150,6 +185,22 @@ fn smallest(rt: HostRuntime) -> Result<(), Fail> {
     assert_eq!(rt; view.interfaces.as_slice().len(), 0);
     assert_eq!(rt; view.fields.as_slice().len(), 0);
     assert_eq!(rt; view.methods.as_slice().len(), 0);
+    Ok(())
+}
+
+#[test]
+fn module(rt: HostRuntime) -> Result<(), Fail> {
+    let mut bytes = SMALLEST;
+    bytes[39] = 0x80;
+    let read = read_class(rt.alloc(), &bytes)
+        .ok()
+        .ok_or("it is a class file")?;
+    assert!(rt; read.is_none());
+    bytes[42] = 0;
+    match read_class(rt.alloc(), &bytes) {
+        Err(ReadError::Fault(fault)) => assert!(rt; fault.rule == ClassRule::BadIndex),
+        _ => panic!(rt; "a module without a name was read"),
+    }
     Ok(())
 }
 
@@ -177,9 +228,7 @@ fn cut_at_each_length(rt: HostRuntime) -> Result<(), Fail> {
 
 #[test]
 fn methods(rt: HostRuntime) -> Result<(), Fail> {
-    let view = read_class(rt.alloc(), &METHODS)
-        .ok()
-        .ok_or("it is a class file")?;
+    let view = view_of(rt.alloc(), &METHODS)?;
     assert_eq!(rt; view.name.as_slice(), b"J".as_slice());
     assert_eq!(rt; view.flags, 0x0600);
     match view.interfaces.as_slice() {
@@ -198,19 +247,41 @@ fn methods(rt: HostRuntime) -> Result<(), Fail> {
 }
 
 #[test]
+fn fields(rt: HostRuntime) -> Result<(), Fail> {
+    let view = view_of(rt.alloc(), &FIELDS)?;
+    let [first, second] = view.fields.as_slice() else {
+        panic!(rt; "it has two fields");
+    };
+    assert_eq!(rt; first.name.as_slice(), b"a".as_slice());
+    assert_eq!(rt; first.desc.as_slice(), b"I".as_slice());
+    assert_eq!(rt; first.flags, 0x001a);
+    assert_eq!(rt; second.name.as_slice(), b"b".as_slice());
+    assert_eq!(rt; second.desc.as_slice(), b"[LT;".as_slice());
+    assert_eq!(rt; second.flags, 0x0002);
+    assert_eq!(rt; view.methods.as_slice().len(), 0);
+    Ok(())
+}
+
+#[test]
 fn changed_bytes(rt: HostRuntime) -> Result<(), Fail> {
-    for (at, byte, rule, offset, index) in CHANGES.iter() {
-        let mut bytes = METHODS.to_vec(rt.alloc())?;
-        if let Some(old) = bytes.get_mut(*at) {
-            *old = *byte;
-        }
-        match read_class(rt.alloc(), &bytes) {
-            Err(ReadError::Fault(fault)) => {
-                assert!(rt; fault.rule == *rule, "{byte} at {at}");
-                assert_eq!(rt; fault.offset, *offset, "{byte} at {at}");
-                assert_eq!(rt; fault.index, *index, "{byte} at {at}");
+    let tables = [
+        (METHODS.as_slice(), CHANGES.as_slice()),
+        (FIELDS.as_slice(), BROKEN_FIELDS.as_slice()),
+    ];
+    for (file, changes) in tables {
+        for (at, byte, rule, offset, index) in changes.iter() {
+            let mut bytes = file.to_vec(rt.alloc())?;
+            if let Some(old) = bytes.get_mut(*at) {
+                *old = *byte;
             }
-            _ => panic!(rt; "it was read with {byte} at {at}"),
+            match read_class(rt.alloc(), &bytes) {
+                Err(ReadError::Fault(fault)) => {
+                    assert!(rt; fault.rule == *rule, "{byte} at {at}");
+                    assert_eq!(rt; fault.offset, *offset, "{byte} at {at}");
+                    assert_eq!(rt; fault.index, *index, "{byte} at {at}");
+                }
+                _ => panic!(rt; "it was read with {byte} at {at}"),
+            }
         }
     }
     Ok(())
@@ -222,9 +293,7 @@ fn equal_texts(rt: HostRuntime) -> Result<(), Fail> {
     let mut bytes = METHODS.to_vec(rt.alloc())?;
     bytes[16] = 0x61;
     bytes[202] = 2;
-    let view = read_class(rt.alloc(), &bytes)
-        .ok()
-        .ok_or("it is a class file")?;
+    let view = view_of(rt.alloc(), &bytes)?;
     assert_eq!(rt; view.methods.as_slice().len(), 2);
     bytes[204] = 8;
     match read_class(rt.alloc(), &bytes) {
@@ -239,13 +308,11 @@ fn equal_texts(rt: HostRuntime) -> Result<(), Fail> {
 
 #[test]
 fn reads_sites(rt: HostRuntime) -> Result<(), Fail> {
-    for (opcode, index, kind, interface) in SITES {
+    for (opcode, index, kind, interface, name, desc) in SITES {
         let mut bytes = CALL;
-        bytes[119] = opcode;
-        bytes[121] = index;
-        let view = read_class(rt.alloc(), &bytes)
-            .ok()
-            .ok_or("it is a class file")?;
+        bytes[133] = opcode;
+        bytes[135] = index;
+        let view = view_of(rt.alloc(), &bytes)?;
         let [method] = view.methods.as_slice() else {
             panic!(rt; "it has one method");
         };
@@ -256,8 +323,8 @@ fn reads_sites(rt: HostRuntime) -> Result<(), Fail> {
         assert_eq!(rt; site.kind, kind, "{opcode}");
         assert_eq!(rt; site.target.owner_is_interface_ref, interface, "{opcode}");
         assert_eq!(rt; site.target.owner.as_slice(), b"T".as_slice());
-        assert_eq!(rt; site.target.name.as_slice(), b"m".as_slice());
-        assert_eq!(rt; site.target.desc.as_slice(), b"()V".as_slice());
+        assert_eq!(rt; site.target.name.as_slice(), name);
+        assert_eq!(rt; site.target.desc.as_slice(), desc);
     }
     Ok(())
 }
@@ -287,11 +354,11 @@ fn broken_code(rt: HostRuntime) -> Result<(), Fail> {
 // Its one attribute again, after it.
 #[test]
 fn second_code(rt: HostRuntime) -> Result<(), Fail> {
-    let mut bytes = CALL[..128].to_vec(rt.alloc())?;
-    bytes.extend_from_slice(&CALL[105..])?;
-    bytes[104] = 2;
+    let mut bytes = CALL[..142].to_vec(rt.alloc())?;
+    bytes.extend_from_slice(&CALL[119..])?;
+    bytes[118] = 2;
     let want = ClassFault {
-        offset: 128,
+        offset: 142,
         index: 0,
         rule: ClassRule::DoubleCode,
     };
@@ -329,9 +396,15 @@ fn bundles(rt: HostRuntime) -> Result<(), Fail> {
         [view] => assert_eq!(rt; view.name.as_slice(), b"I".as_slice()),
         _ => panic!(rt; "it has one class file"),
     }
-    let two = make_bundle(rt.alloc(), &[b"a/I.class", b"b/I.class"])?;
+    let mut two = make_bundle(rt.alloc(), &[b"a/I.class", b"b/I.class"])?;
     let views = read_bundle(rt.alloc(), &two).ok().ok_or("it is a bundle")?;
     assert_eq!(rt; views.as_slice().len(), 2);
+    // the flag of a module, in the first of them
+    if let Some(flags) = two.get_mut(64) {
+        *flags = 0x80;
+    }
+    let views = read_bundle(rt.alloc(), &two).ok().ok_or("it is a bundle")?;
+    assert_eq!(rt; views.as_slice().len(), 1);
     Ok(())
 }
 

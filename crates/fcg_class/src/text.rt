@@ -2,6 +2,7 @@
 ghost use Rattle.std.specs.Prelude.{◌≡◌, ◌≤◌, ◌+◌, length, Ok, OnOk, IfOk};
 ghost use Rattle.fcg_grammar.specs.Reading.{seen};
 ghost use Rattle.fcg_views.specs.Breaks.Pool.{text_of};
+ghost use Rattle.fcg_views.specs.Breaks.Names.{type_of};
 ghost use Rattle.fcg_views.specs.Breaks.Attributes.{over, text_at};
 ghost use Rattle.fcg_views.specs.Breaks.Class.{type_at};
 
@@ -38,6 +39,16 @@ pub fn find_type<'a>(pool: &Pool<'a>, at: usize) -> Result<Text<'a>, ClassFault>
     ensures inside { OnOk result (at + 2 ≤ length pool.now.bytes) }
 {
     let class = read_u2(pool.bytes(), at, 0)?;
+    find_type_of(pool, at, class)
+}
+
+/// The name of the type that an index of a Class names, which has a byte or more. A fault is at the given place of the
+/// file: of an index that names no Class it is `BadIndex` or `WrongKind`, of an empty name `EmptyName`.
+#[tactic(auto, unfolding(fcg_views::specs::Breaks::Names::type_of))]
+pub fn find_type_of<'a>(pool: &Pool<'a>, at: usize, class: u16) -> Result<Text<'a>, ClassFault>
+    ensures value { seen (λ text. text.bytes.now) result ≡ type_of pool.now at class }
+    ensures named { IfOk result (λ text. text_of pool.now text.index ≡ Ok text.bytes.now) }
+{
     let index = at_index(at, class, pool.class_index(class))?;
     let bytes = at_index(at, class, pool.utf8(index))?;
     if bytes.is_empty() {

@@ -1,11 +1,13 @@
 use Rattle.std.proofs.Common.{◌≡◌, ℕ, List, ◌-◌, ◌≤◌, length}
+use Rattle.std.specs.Prelude.{Option}
 use Rattle.fcg_grammar.specs.Rows.{rows}
 use Rattle.fcg_grammar.proofs.RowLemmas.{with_front}
-use Rattle.fcg_class.specs.Bundle.{entry_at}
+use Rattle.fcg_views.specs.declared.view.View.{View}
+use Rattle.fcg_class.specs.Bundle.{views_of, entry_at}
 use Rattle.fcg_class.specs.Entries.{ArePaths, begun, start}
 use Rattle.fcg_class.proofs.bundle.read_entries.Given as goal
 
 abbrev pub invariant-loop : goal.invariant-loop
 invariant-loop l =
-    ((before : List (List ℕ)) × ArePaths l.paths before × (with_front l.views.items (rows (entry_at l.bytes) (l.count - l.counter) l.counter (begun l.ahead before)) ≡ rows (entry_at l.bytes) l.count 0 (start l.at)))
+    ((before : List (List ℕ)) × ArePaths l.paths before × (front : List (Option View)) × (l.views.items ≡ views_of front) × (with_front front (rows (entry_at l.bytes) (l.count - l.counter) l.counter (begun l.ahead before)) ≡ rows (entry_at l.bytes) l.count 0 (start l.at)))
     × (l.ahead.at ≤ length l.bytes)

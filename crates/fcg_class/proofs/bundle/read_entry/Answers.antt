@@ -1,8 +1,6 @@
-use Rattle.std.proofs.Common.{◌≡◌, true, false, not, List, sym, ◌∙◌, ap}
+use Rattle.std.proofs.Common.{◌≡◌, true, false, not, sym, ◌∙◌, ap}
 use Rattle.std.specs.List.{list_any}
 use Rattle.std.proofs.lemmas.Result.{err_from_is_err_and}
-use Rattle.fcg_views.specs.declared.view.Method.{Method}
-use Rattle.fcg_views.specs.Valid.{site_count, left_of}
 use Rattle.fcg_class.specs.Bundle.{is_same}
 use Rattle.fcg_class.proofs.EntryLemmas.{stands_before, ArePaths-push, entry_at-twice, entry_at-broken, entry_at-read}
 use Rattle.fcg_class.proofs.bundle.read_entry.Goals as goal
@@ -25,5 +23,5 @@ returns-in-Some-clause-value c = λ k before are.
     let known = stands_before c.args.paths.now before c.in_ok-path.path c.in_ok-insert.field-0 are c.in_ok-insert.ensures.added in
     let fresh : false ≡ list_any (λ p. is_same p c.in_ok-path.path.now) before = ap not (sym c.if-not-branch.false) ∙ known in
     let set = ArePaths-push c.args.paths.now c.insert.new.self before c.in_ok-path.path are c.in_ok-insert.ensures.updates.0 in
-    let left = ap (λ (ms : List Method). left_of c.args.ahead.room (site_count ms)) (sym c.as_slice.ensures) ∙ sym c.sites_left.ensures ∙ c.in-Some.is in
+    let left = sym c.room_after.ensures ∙ c.in-Some.is in
     (c.in_ok-path.path.now, set, entry_at-read c.args.bytes.now k c.args.ahead before c.in_ok-path.path.now c.in_ok-path.after (sym c.in_ok-path.ensures.value) fresh c.in_ok-view.view c.in_ok-view.at c.in-Some.room c.in_ok-view.ensures.value left)

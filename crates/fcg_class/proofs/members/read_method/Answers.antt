@@ -2,31 +2,31 @@ use Rattle.std.proofs.Common.{◌≡◌, List, [], ◌∷◌, ◌++◌, sym, ap,
 use Rattle.std.proofs.lemmas.Result.{err_from_is_err_and}
 use Rattle.fcg_views.specs.declared.view.Method.{Method}
 use Rattle.fcg_views.specs.declared.view.Site.{Site}
-use Rattle.fcg_views.specs.Breaks.Members.{or_none, with_sites}
-use Rattle.fcg_class.specs.Members.{method_of, code_begun}
+use Rattle.fcg_views.specs.Breaks.Members.{or_none, method_of}
+use Rattle.fcg_class.specs.Members.{declared_of, code_begun}
 use Rattle.fcg_class.proofs.MethodLemmas.{method_at-doubled, method_at-broken, method_at-read}
 use Rattle.fcg_class.proofs.members.read_method.Goals as goal
 
 pub returns-then-has-clause-value : goal.returns-then-has-clause-value
 returns-then-has-clause-value c =
-    let m = method_of c.in_ok-declared.declared in
+    let d = declared_of c.in_ok-declared.declared in
     let declared = rw c.requires.pool at (sym c.in_ok-declared.ensures.value) in
-    rw c.fault_at.ensures (λ k. method_at-doubled c.args.table.now.pool k c.args.at c.args.table.now.methods m declared (sym c.has.ensures ∙ c.if-has.true))
+    rw c.fault_at.ensures (λ k. method_at-doubled c.args.table.now.pool k c.args.at c.args.table.now.methods d declared (sym c.has.ensures ∙ c.if-has.true))
 
 pub returns-in_err-after-clause-value : goal.returns-in_err-after-clause-value
 returns-in_err-after-clause-value c =
-    let m = method_of c.in_ok-declared.declared in
+    let d = declared_of c.in_ok-declared.declared in
     let declared = rw c.requires.pool at (sym c.in_ok-declared.ensures.value) in
     let given = rw (c.in_ok-declared.ensures.same, c.requires.pool, c.site_count.ensures.value) at c.in_err-after.ensures.value in
     let p = err_from_is_err_and c.from_residual-in_err-after.result c.from_residual-in_err-after.ensures.1 in
-    λ k. rw (p.1, p.2) (method_at-broken c.args.table.now.pool k c.args.at c.args.table.now.methods m c.in_err-after.field-0.0 declared (sym c.has.ensures ∙ c.if-has.false) given)
+    λ k. rw (p.1, p.2) (method_at-broken c.args.table.now.pool k c.args.at c.args.table.now.methods d c.in_err-after.field-0.0 declared (sym c.has.ensures ∙ c.if-has.false) given)
 
 pub returns-clause-value : goal.returns-clause-value
 returns-clause-value c =
-    let m = method_of c.in_ok-declared.declared in
+    let d = declared_of c.in_ok-declared.declared in
     let declared = rw c.requires.pool at (sym c.in_ok-declared.ensures.value) in
     let given = rw (c.in_ok-declared.ensures.same, c.requires.pool, c.site_count.ensures.value) at c.in_ok-after.ensures.value in
-    let made = c.in_ok-method.ensures.ok ∙ ap (λ (xs : List Site). with_sites m xs) c.sites_or_none-sites.ensures in
-    let pushed : c.push.new.self.methods ≡ c.args.table.now.methods ++ with_sites m (or_none c.in_ok-after.sites) ∷ [] =
+    let made = c.in_ok-method.ensures.ok ∙ ap (λ (xs : List Site). method_of d xs) c.sites_or_none-sites.ensures in
+    let pushed : c.push.new.self.methods ≡ c.args.table.now.methods ++ method_of d (or_none c.in_ok-after.sites) ∷ [] =
     c.in_ok-push.ensures.ok ∙ ap (λ (x : Method). c.args.table.now.methods ++ x ∷ []) made in
-    λ k. (with_sites m (or_none c.in_ok-after.sites), pushed, rw pushed (method_at-read c.args.table.now.pool k c.args.at c.args.table.now.methods m (code_begun c.in_ok-after.after c.in_ok-after.sites) declared (sym c.has.ensures ∙ c.if-has.false) given))
+    λ k. (method_of d (or_none c.in_ok-after.sites), pushed, rw pushed (method_at-read c.args.table.now.pool k c.args.at c.args.table.now.methods d (code_begun c.in_ok-after.after c.in_ok-after.sites) declared (sym c.has.ensures ∙ c.if-has.false) given))

@@ -1,15 +1,15 @@
 #!/usr/bin/env python3
 """Checks plain.py, or ./fcg with --fcg, against answers that were worked out by hand.
 
-Each row has a class file or a bundle and the text of sites, or None where the input is refused. What is
-refused by sites must be refused by list too, and what isn't must be listed.
+Each row has a class file or a bundle and the text of sites, or the texts of sites and list, or None where the
+input is refused. What is refused by sites must be refused by list too, and what isn't must be listed.
 """
 
 import sys
 
 import measure
 import plain
-from hostile import Pool, attribute, attributes, bundle_of, calls, class_file, code_content, u2, u4
+from hostile import Pool, as_module, attribute, attributes, bundle_of, calls, class_file, code_content, u2, u4
 
 SMALL = bytes.fromhex(
     "cafebabe000000410008" "010003702f41" "070001" "0100016d" "010003282956" "0c00030004" "0a00020005" "010004436f6465"
@@ -17,7 +17,7 @@ SMALL = bytes.fromhex(
 
 
 class Made:
-    """A class A with a method m, and what its code may call: virtual 1, interface 2, and so on by name."""
+    """A class A with a method m, and indexes of what its code may name: a method, an interface's, a field, a type."""
 
     def __init__(self, owner=b"o/W", name=b"go", descriptor=b"(I)V"):
         pool = self.pool = Pool()
@@ -38,6 +38,14 @@ class Made:
         """The class file of the method with these attributes."""
         return class_file(self.pool, self.this, [(self.m, self.void, attributes(*rows))], attributes=more)
 
+    def with_fields(self, *fields):
+        """The class file of the method without a code and of fields."""
+        return class_file(self.pool, self.this, [(self.m, self.void, b"\0\0")], fields=fields)
+
+    def with_field(self, name, descriptor, *rows):
+        """The class file of one field of a name, a descriptor and attributes."""
+        return self.with_fields((self.pool.utf8(name), self.pool.utf8(descriptor), attributes(*rows)))
+
     def with_content(self, content):
         """The class file of the method with a Code attribute of this content."""
         return self.with_rows(attribute(self.code, content))
@@ -47,13 +55,15 @@ class Made:
         return self.with_content(code_content(code, **how))
 
 
-def text(*rows, front="A.m()V"):
-    """The text of sites of the method: each row is a place and a kind of call of o/W.go(I)V."""
-    lines = ["site %s %d %s o/W.go(I)V\n" % (front, place, kind) for place, kind in rows]
+def text(*rows, target="o/W.go(I)V"):
+    """The text of sites of the method: each row is a place and a kind of a site that names `target`."""
+    lines = ["site A.m()V %d %s %s\n" % (place, kind, target) for place, kind in rows]
     return "".join(lines) + "sites %d\n" % len(rows)
 
 
 NONE = "sites 0\n"
+NO_TYPE = NONE, "types 0 methods 0\n"
+ONE_TYPE = NONE, "type A\nmethod m()V\ntypes 1 methods 1\n"
 
 
 def instruction_rows():
@@ -122,8 +132,9 @@ def call_rows():
         yield kind + " of the other kind", made.with_code(bytes([opcode]) + other + tail), wrong
         for index in (b"\0\0", made.field, made.kind, u2(made.m), b"\xff\xff"):
             yield kind + " of another entry", made.with_code(bytes([opcode]) + index + tail), None
-    for opcode, index in ((178, made.field), (179, made.field), (186, made.method), (187, made.kind)):
-        yield "opcode %d" % opcode, made.with_code(bytes([opcode]) + index + b"\0\0"), None
+    for index in (made.method, made.field, made.kind, b"\0\0"):
+        yield "opcode 186", made.with_code(b"\xba" + index + b"\0\0"), None
+    for opcode in (178, 179, 186, 187):
         yield "byte %d that is no opcode" % opcode, made.with_code(b"\x10" + bytes([opcode])), NONE
     for owner, name, descriptor in ((b"", b"go", b"()V"), (b"o", b"", b"()V"), (b"o", b"go", b""), (b"o", b"go", b"I"),
                                     (b"o", b"go", b"(V)V"), (b"o", b"go", b"(" + b"I" * 256 + b")V")):
@@ -133,6 +144,163 @@ def call_rows():
     made = Made(b"[Lo.W;", b"<i/t>", b"([La/b-$_;)La%;")
     yield ("escapes", made.with_code(b"\xb7" + made.method),
            "site A.m()V 0 special %5BLo%2EW%3B.%3Ci%2Ft%3E([La/b-$_;)La%25;\nsites 1\n")
+
+
+RIGHT_FIELDS = [b"B", b"C", b"D", b"F", b"I", b"J", b"S", b"Z", b"Lx;", b"La/b$c;", b"L[;", b"L(;", b"L)V;", b"L.;", b"LI;",
+                b"L\xc3\xa9;", b"[I", b"[[J", b"[Lx;", b"[" * 255 + b"I", b"[" * 255 + b"Lx;", b"L" + b"x" * 65533 + b";"]
+WRONG_FIELDS = [b"", b"V", b"A", b"i", b"L", b"L;", b"Lx", b"Lx;;", b"Lx;I", b"LI;I", b"II", b"I ", b" I", b"[", b"[V", b"[L;",
+                b"[" * 256 + b"I", b"[" * 256 + b"Lx;", b"[" * 255, b"()V", b"(I)V", b"(I)", b")", b"I;", b"/", b"L" + b"x" * 65534]
+
+
+def field_rows():
+    """Fields: their names, descriptors and attributes."""
+    for descriptor in RIGHT_FIELDS:
+        yield "field of %r" % descriptor[:9], Made().with_field(b"f", descriptor), ONE_TYPE
+    for descriptor in WRONG_FIELDS:
+        yield "field of %r, wrong" % descriptor[:9], Made().with_field(b"f", descriptor), None
+    for name in (b"m", b"A", b"<init>", b"a.b;[/", b"\xc0\x80", b"n" * 65535):
+        yield "field named %r" % name[:9], Made().with_field(name, b"I"), ONE_TYPE
+    yield "field without a name", Made().with_field(b"", b"I"), None
+    made = Made()
+    kind = made.pool.utf8(b"I")
+    field = (made.m, kind, b"\0\0")
+    yield "two fields alike", made.with_fields(field, field), ONE_TYPE
+    yield "65535 fields", made.with_fields(*[field] * 65535), ONE_TYPE
+    for index in (0, made.this, 255, 65535):
+        yield "field of the name %d" % index, made.with_fields(field, (index, kind, b"\0\0")), None
+        yield "field of the descriptor %d" % index, made.with_fields(field, (made.m, index, b"\0\0")), None
+    yield from field_attribute_rows()
+
+
+def field_attribute_rows():
+    """Attributes of fields, and fields that are cut."""
+    made = Made()
+    kind = made.pool.utf8(b"I")
+    note = attribute(made.note, b"abc")
+    code = attribute(made.code, b"zz")
+    boot = attribute(made.boot, b"")
+    for what, rows, told in (("one", [note], ONE_TYPE), ("three", [note] * 3, ONE_TYPE), ("a Code", [code], ONE_TYPE),
+                             ("two of Code", [code, note, code], ONE_TYPE), ("BootstrapMethods", [boot], None),
+                             ("BootstrapMethods last", [note, code, boot], None), ("one of no name", [attribute(0, b"")], None),
+                             ("one of a Class", [attribute(made.this, b"")], None),
+                             ("one that is too long", [attribute(made.note, b"abc", 0x1000)], None)):
+        field = (made.m, kind, attributes(*rows))
+        yield "field's attributes: " + what, made.with_fields(field), told
+        yield "the second field's attributes: " + what, made.with_fields((made.m, kind, b"\0\0"), field), told
+    content = attribute(made.code, code_content(b"\xb1", inner=attributes(boot)))
+    yield "BootstrapMethods in the Code of a field", made.with_fields((made.m, kind, attributes(content))), ONE_TYPE
+    yield "field of a count too many", made.with_fields((made.m, kind, u2(2) + note)), None
+    whole = made.with_fields((made.m, kind, attributes(note)), (made.m, kind, b"\0\0"))
+    for length in range(len(whole)):
+        yield "fields, cut at %d" % length, whole[:length], None
+
+
+MEMBERS = [("staticfield", 178), ("staticfield", 179)]
+
+
+def type_rows():
+    """What a `new` may name."""
+    made = Made()
+    new = b"\xbb" + made.kind
+    yield "new", made.with_code(new), text((0, "new"), target="o/W")
+    yield "new twice", made.with_code(b"\0" + new + b"\0" + new), text((1, "new"), (5, "new"), target="o/W")
+    for length in (1, 2):
+        yield "new cut at %d" % length, made.with_code(b"\0" + new[:length]), None
+    for entry, index in other_entries(made, made.kind):
+        yield "new of " + entry, made.with_code(b"\xbb" + index), None
+    for name, told in ((b"[I", "%5BI"), (b"[[La/B;", "%5B%5BLa/B%3B"), (b"a.b", "a%2Eb"), (b"A", "A"), (b"a//", "a//")):
+        made = Made(name)
+        yield "new of %r" % name, made.with_code(b"\xbb" + made.kind), text((0, "new"), target=told)
+    made = Made(b"")
+    yield "new of no name", made.with_code(b"\xbb" + made.kind), None
+    for opcode in (189, 192, 193):
+        yield "opcode %d of a type of no name" % opcode, made.with_code(bytes([opcode]) + made.kind), NONE
+
+
+def other_entries(made, good):
+    """Entries of each kind by name, with the bytes of their indexes, but for the good one."""
+    pool = made.pool
+    pair = u2(pool.pair(b"x", b"I"))
+    found = [("a Utf8", u2(made.m)), ("a Class", made.kind), ("a Fieldref", made.field), ("a Methodref", made.method),
+             ("an InterfaceMethodref", made.face), ("a NameAndType", pair), ("a String", u2(pool.entry(8, made.m))),
+             ("a MethodType", u2(pool.entry(16, made.void))), ("a Module", u2(pool.entry(19, made.m))),
+             ("a Package", u2(pool.entry(20, made.m))), ("an Integer", u2(pool.raw(b"\3abcd"))),
+             ("a Float", u2(pool.raw(b"\4abcd"))), ("a Dynamic", u2(pool.raw(b"\x11\0\0" + pair))),
+             ("an InvokeDynamic", u2(pool.raw(b"\x12\0\0" + pair))), ("a MethodHandle", u2(pool.raw(b"\x0f\5" + made.method)))]
+    for tag, what in ((5, "Long"), (6, "Double")):
+        index = pool.raw(bytes([tag]) + b"abcdefgh", 1)
+        found += [("a " + what, u2(index)), ("the second index of a " + what, u2(index + 1))]
+    found += [("nothing", b"\0\0"), ("an index past the pool", u2(len(pool.parts) + 1)), ("the last index", b"\xff\xff")]
+    return [(what, index) for what, index in found if index != good]
+
+
+def static_rows():
+    """What a `getstatic` and a `putstatic` may name."""
+    for kind, opcode in MEMBERS:
+        start = bytes([opcode])
+        made = Made(b"o/W", b"go", b"I")
+        site = start + made.field
+        yield "opcode %d" % opcode, made.with_code(site), text((0, kind), target="o/W.goI")
+        yield ("opcode %d twice" % opcode, made.with_code(b"\0" + site + site),
+               text((1, kind), (4, kind), target="o/W.goI"))
+        for length in (1, 2):
+            yield "opcode %d cut at %d" % (opcode, length), made.with_code(b"\0" + site[:length]), None
+        for entry, index in other_entries(made, made.field):
+            yield "opcode %d of %s" % (opcode, entry), made.with_code(start + index), None
+        for descriptor in RIGHT_FIELDS[:-1]:
+            made = Made(b"o", b"f", descriptor)
+            told = descriptor.decode().replace(".", "%2E").replace("\u00e9", "%C3%A9")
+            yield ("opcode %d of %r" % (opcode, descriptor[:9]), made.with_code(start + made.field),
+                   text((0, kind), target="o.f" + told))
+        for descriptor in WRONG_FIELDS:
+            made = Made(b"o", b"f", descriptor)
+            yield "opcode %d of %r, wrong" % (opcode, descriptor[:9]), made.with_code(start + made.field), None
+            yield "no opcode %d of %r, wrong" % (opcode, descriptor[:9]), made.with_code(b"\xb4" + made.field), NONE
+        for owner, name in ((b"", b"f"), (b"o", b""), (b"", b"")):
+            made = Made(owner, name, b"I")
+            yield "opcode %d of %r %r" % (opcode, owner, name), made.with_code(start + made.field), None
+            yield "opcode 180 of %r %r" % (owner, name), made.with_code(b"\xb4" + made.field), NONE
+        made = Made(b"[Lo.W;", b"<i/t>", b"[La/b-$_%;")
+        yield ("opcode %d, escapes" % opcode, made.with_code(start + made.field),
+               text((0, kind), target="%5BLo%2EW%3B.%3Ci%2Ft%3E[La/b-$_%25;"))
+    yield from mixed_rows()
+
+
+def mixed_rows():
+    """Sites of several kinds, entries whose indexes are no opcodes, and references that share a descriptor."""
+    made = Made()
+    made.pool.parts += [made.pool.parts[made.m - 1]] * (250 - len(made.pool.parts))
+    pair = made.pool.pair(b"f", b"I")
+    kind = made.pool.class_entry(made.m)
+    field = made.pool.entry(9, kind, pair)
+    yield "new of the entry 254", made.with_code(b"\xbb" + u2(kind)), text((0, "new"), target="m")
+    for name, opcode in MEMBERS:
+        yield "opcode %d of the entry 255" % opcode, made.with_code(bytes([opcode]) + u2(field)), text((0, name), target="m.fI")
+    made = Made(b"o", b"f", b"I")
+    yield "a method reference of I", made.with_code(b"\xb8" + made.method), None
+    yield "a method reference of I after its field", made.with_code(b"\xb2" + made.field + b"\xb8" + made.method), None
+    made = Made(b"o", b"f", b"()I")
+    yield "a field reference of ()I after its method", made.with_code(b"\xb8" + made.method + b"\xb2" + made.field), None
+    made = Made()
+    number = u2(made.pool.entry(9, made.this, made.pool.pair(b"x", b"J")))
+    code = b"\xbb" + made.kind + b"\x59\xb2" + number + b"\xb7" + made.method + b"\xb3" + number + b"\xbb" + u2(made.this)
+    told = ["0 new o/W", "4 staticfield A.xJ", "7 special o/W.go(I)V", "10 staticfield A.xJ", "13 new A"]
+    yield "sites of several kinds", made.with_code(code), "".join("site A.m()V %s\n" % row for row in told) + "sites 5\n"
+
+
+def module_rows():
+    """The rows of one class file again, as modules, which are refused alike and print nothing."""
+    for make in (instruction_rows, call_rows, attribute_rows, field_rows, type_rows, static_rows):
+        for what, data, told in make():
+            yield "module: " + what, as_module(data), None if told is None else NO_TYPE
+    made = Made()
+    body = made.with_code(b"\xb8" + made.method)
+    module = as_module(body)
+    here = text((0, "static"))
+    yield "a module, then a class", bundle_of(module, body), (here, "type A\nmethod m()V\ntypes 1 methods 1\n")
+    yield "a class between modules", bundle_of(module, body, module), (here, "type A\nmethod m()V\ntypes 1 methods 1\n")
+    yield "three modules", bundle_of(module, module, module), NO_TYPE
+    yield "a class, then a module with a byte more", bundle_of(body, module + b"\0"), None
 
 
 def attribute_rows():
@@ -178,8 +346,29 @@ def limit_rows():
     yield "four million", bundle_of(*[calls(1000000)] * 4), 4000000
     yield "four million and one", bundle_of(*[calls(1000000)] * 4, calls(1)), None
     yield "two classes", bundle_of(calls(1), calls(1)), front * 2 + "sites 2\n"
+    million = as_module(calls(1000000))
+    yield "a million of a module", million, NO_TYPE
+    yield "a million and one of a module", as_module(calls(1000001)), None
+    yield "five modules of a million", bundle_of(*[million] * 5), NO_TYPE
+    yield "four million, and a module of a million", bundle_of(*[calls(1000000)] * 4, million), 4000000
+    yield "four million after a module of a million", bundle_of(million, *[calls(1000000)] * 4), 4000000
+    yield "four million and one after a module", bundle_of(million, *[calls(1000000)] * 4, calls(1)), None
+    yield from other_limit_rows()
     yield "no class", bundle_of(), NONE
     yield "a class that is refused after one with a site", bundle_of(calls(1), Made().with_code(b"\xff")), None
+
+
+def other_limit_rows():
+    """The numbers of sites of `new` and of static fields."""
+    made = Made(b"o", b"f", b"I")
+    names = [made.pool.utf8(b"m%d" % number) for number in range(50)]
+    for what, site in (("new", b"\xbb" + made.kind), ("getstatic", b"\xb2" + made.field), ("putstatic", b"\xb3" + made.field)):
+        whole = attributes(attribute(made.code, code_content(site * 20000)))
+        one = attributes(attribute(made.code, code_content(site)))
+        methods = [(name, made.void, whole) for name in names]
+        yield "a million of " + what, class_file(made.pool, made.this, methods), 1000000
+        more = methods + [(made.m, made.void, one)]
+        yield "a million and one of " + what, class_file(made.pool, made.this, more), None
 
 
 def other_rows():
@@ -192,16 +381,20 @@ def other_rows():
     lines = ["site A.%s %d %s o/W.go(I)V\n" % row for row in (
         ("m()V", 1, "static"), ("m()V", 4, "special"), ("b%2Ec(J)[La;", 1, "static"), ("b%2Ec(J)[La;", 4, "special"))]
     yield "three methods", class_file(pool, made.this, methods), "".join(lines) + "sites 4\n"
+    nameless = [(pool.utf8(b""), made.void, code)]
+    yield "a method without a name", class_file(pool, made.this, methods + nameless), None
     yield "the same method twice", class_file(pool, made.this, methods + methods[:1]), None
     yield "a class of ninety bytes", SMALL, "site p/A.m()V 0 static p/A.m()V\nsites 1\n"
-    yield "a module", SMALL.replace(bytes.fromhex("00210002"), bytes.fromhex("80210002")), None
+    yield "a module", SMALL.replace(bytes.fromhex("00210002"), bytes.fromhex("80210002")), NO_TYPE
+    yield "a module by its flag alone", SMALL.replace(bytes.fromhex("00210002"), bytes.fromhex("80000002")), NO_TYPE
     for length in range(len(SMALL)):
         yield "the same, cut at %d" % length, SMALL[:length], None
 
 
 def rows():
     """Every row: what it is, the bytes of a bundle, and the text, the number of sites, or None."""
-    for make in (instruction_rows, switch_rows, call_rows, attribute_rows, other_rows, limit_rows):
+    for make in (instruction_rows, switch_rows, call_rows, attribute_rows, field_rows, type_rows, static_rows, module_rows,
+                 other_rows, limit_rows):
         for what, data, told in make():
             bundle = data if data[:4] == b"FCGB" else plain.pack([(b"A.class", data)])
             yield what, bundle, told
@@ -212,6 +405,8 @@ def right(told, got):
     status, out, err = got
     if told is None:
         return got == (3, b"", plain.NOT_BUILT)
+    if isinstance(told, tuple):
+        return got == (0, told[0].encode(), b"")
     if isinstance(told, int):
         return status == 0 and not err and out.endswith(b"\nsites %d\n" % told) and out.count(b"\n") == told + 1
     return got == (0, told.encode(), b"")
@@ -221,6 +416,8 @@ def lists(told, got):
     """Whether an answer of list goes with what was told of sites."""
     if told is None:
         return got == (3, b"", plain.NOT_BUILT)
+    if isinstance(told, tuple):
+        return got == (0, told[1].encode(), b"")
     return got[0] == 0 and not got[2] and got[1].split(b"\n")[-2].startswith(b"types ")
 
 

@@ -1,4 +1,4 @@
-"""Edges and mutations of Code attributes, for differential.py.
+"""Edges and mutations of Code attributes, fields and modules, for differential.py.
 
 Each is a class file, most of them of one method. All that is random comes from the source of chance that is
 given.
@@ -6,12 +6,20 @@ given.
 
 import struct
 
-from hostile import Pool, attribute, attributes, class_file, code_content, u2, u4
+from hostile import FLAGS, MODULE, Pool, as_module, attribute, attributes, class_file, code_content, u2, u4
 
 RETURN = b"\xb1"
 BAD_OPCODE = b"\xca"
-SITES = (182, 183, 184, 185)
-REFUSED = (178, 179, 186, 187)
+CALLS = (182, 183, 184, 185)
+STATICS = (178, 179)
+NEW = 187
+SITES = CALLS + STATICS + (NEW,)
+DYNAMIC = 186
+# instructions that name a field or a type and are no sites
+OTHERS = (180, 181, 189, 192, 193)
+FIELDS = [b"I", b"J", b"Z", b"V", b"", b"L", b"L;", b"Lx", b"Lx;", b"Lx;;", b"Lx;y", b"II", b"[", b"[I", b"[V", b"[L;", b"[[[Lx;",
+          b"[" * 255 + b"D", b"[" * 256 + b"D", b"[" * 255 + b"Lx;", b"[" * 256 + b"Lx;", b"[" * 65535, b"()V", b"(I)V", b"I)", b"LI;",
+          b"L[;", b"L/;", b"La.b$;", b"L\xc3\xa9;", b"\xc3\xa9", b" I", b"I ", b"L" + b"a" * 65533 + b";", b"L" + b"a" * 65534]
 DESCRIPTORS = [b"", b"I", b"(", b"()", b"V", b"()VV", b"(V)V", b"([V)V", b"(L;)V", b"(La)V", b"(La;)Lb;", b"()[I", b"([)V",
                b"(" + b"I" * 255 + b")V", b"(" + b"I" * 256 + b")V", b"(I" + b"J" * 127 + b")V", b"(" + b"D" * 128 + b")V",
                b"(" + b"[J" * 255 + b")V", b"(" + b"[" * 255 + b"I)V", b"(" + b"[" * 256 + b"I)V", b"()" + b"[" * 256 + b"J"]
@@ -33,6 +41,8 @@ class Kit:
         self.method = pool.entry(10, owner, pair)
         self.face = pool.entry(11, owner, pair)
         self.field = pool.entry(9, owner, pair)
+        self.static = pool.entry(9, owner, pool.pair(b"<f>", b"[La/b;"))
+        self.made = owner
         pool.raw(b"\x03abcd")
         pool.raw(b"\x04abcd")
         pool.raw(b"\x05abcdefgh", 1)
@@ -46,17 +56,29 @@ class Kit:
         pool.entry(20, self.note)
         empty = pool.utf8(b"")
         nowhere = pool.class_entry(empty)
-        for tag in (10, 11):
-            pool.entry(tag, nowhere, pair)
-            pool.entry(tag, owner, pool.entry(12, empty, self.kind))
+        self.int = pool.utf8(b"I")
+        for tag, kind in ((9, self.int), (10, self.kind), (11, self.kind)):
+            pool.entry(tag, nowhere, pool.entry(12, self.name, kind))
+            pool.entry(tag, owner, pool.entry(12, empty, kind))
             pool.entry(tag, nowhere, pool.entry(12, empty, empty))
             pool.entry(tag, owner, pool.entry(12, self.name, empty))
             pool.entry(tag, owner, pool.entry(12, self.name, self.note))
-            pool.entry(tag, self.this, pool.entry(12, self.name, self.kind))
+            pool.entry(tag, self.this, pool.entry(12, self.name, kind))
+            pool.entry(tag, self.this, pool.entry(12, self.name, self.int + self.kind - kind))
 
     def body(self, *rows, more=b"\0\0"):
         """The class file of a method with these attributes."""
         return class_file(self.pool, self.this, [(self.name, self.kind, attributes(*rows))], attributes=more)
+
+    def with_fields(self, *fields, **how):
+        """The class file of a method without a code and of fields."""
+        return class_file(self.pool, self.this, [(self.name, self.kind, b"\0\0")], fields=fields, **how)
+
+    def index(self, opcode):
+        """An index that a site of this opcode may name."""
+        if opcode in STATICS:
+            return self.static
+        return {185: self.face, NEW: self.made}.get(opcode, self.method)
 
     def coded(self, code, **how):
         """The class file of a method with a Code attribute."""
@@ -67,7 +89,8 @@ class Kit:
         called = u2(self.method)
         parts = [b"\x00\x10\x0a\x11\x0a\x0a\x12\x01\xa9\x05\x84\x01\xff\xc4\x15\x01\x02\xc4\x84\x01\x02\x03\x04",
                  b"\xb6" + called, b"\xb7" + called, b"\xb8" + called, b"\xb7" + u2(self.face), b"\xb8" + u2(self.face),
-                 b"\xb9" + u2(self.face) + b"\x01\x00", b"\xb4\x00\x00", b"\xc5\0\0\2", b"\xc8\0\0\0\0", b"\xbc\x0a"]
+                 b"\xb9" + u2(self.face) + b"\x01\x00", b"\xbb" + u2(self.made), b"\xb2" + u2(self.static),
+                 b"\xb3" + u2(self.static), b"\xb4\x00\x00", b"\xc5\0\0\2", b"\xc8\0\0\0\0", b"\xbc\x0a"]
         code = b"".join(parts)
         for number in range(4):
             for make in (lambda at: table(at, -1, 1), lambda at: lookup(at, 2)):
@@ -98,8 +121,8 @@ def opcode_edges(kit):
     for opcode in range(256):
         yield kit.coded(bytes([opcode]))
         indexes = [b""]
-        if opcode in SITES or opcode in REFUSED:
-            indexes = [b"", u2(kit.method), u2(kit.face), u2(kit.field), u2(kit.this)]
+        if opcode in SITES or opcode == DYNAMIC:
+            indexes = [b"", u2(kit.method), u2(kit.face), u2(kit.static), u2(kit.this)]
         for index in indexes:
             for count in range(7):
                 yield kit.coded(bytes([opcode]) + index + BAD_OPCODE * count + RETURN)
@@ -174,15 +197,16 @@ def length_edges(kit):
 
 
 def reference_edges(kit):
-    """Each instruction of a site, and those that are refused, with each index of the pool."""
+    """Each instruction of a site, and those that name what isn't looked at, with each index of the pool."""
     count = len(kit.pool.parts)
-    for opcode in SITES + (178, 180, 187, 189):
+    for opcode in SITES + OTHERS[:3]:
         tail = b"\x01\x00" if opcode == 185 else b""
         for index in list(range(count + 3)) + [0xFFFF, 0x0100 + kit.method]:
             yield kit.coded(bytes([opcode]) + u2(index) + tail + RETURN)
     for tail in (b"\0\0", b"\xff\xff", b"\xca\xca"):
         yield kit.coded(b"\xb9" + u2(kit.face) + tail)
-    yield kit.coded(b"\xba" + u2(kit.method) + b"\0\0" + RETURN)
+    for index in (kit.method, kit.static, kit.made, 0):
+        yield kit.coded(b"\xba" + u2(index) + b"\0\0" + RETURN)
 
 
 def descriptor_edges():
@@ -192,7 +216,7 @@ def descriptor_edges():
              (b"\xc3\xa9\xc0\x80", b"\xed\xa0\x81\xed\xb0\x80", b"(L\xe2\x82\xac;)V"), (b"o" * 65535, b"n" * 65535, b"()V"),
              (b"[I", b"clone", b"()Ljava/lang/Object;"), (b"p/A", b"m", b"()V")]
     for owner, name, descriptor in rows:
-        for opcode in SITES:
+        for opcode in CALLS:
             kit = Kit()
             called = kit.pool.called(owner, name, descriptor, 11 if opcode == 185 else 10)
             code = bytes([opcode]) + u2(called) + (b"\1\0" if opcode == 185 else b"")
@@ -200,6 +224,29 @@ def descriptor_edges():
             if opcode == 182:
                 yield kit.coded(RETURN)
                 yield kit.coded(b"\xb8" + u2(kit.method) + RETURN + code + code)
+    yield from field_reference_edges()
+
+
+def field_reference_edges():
+    """References of fields of other descriptors, owners and names, types of other names, used and not used."""
+    rows = [(b"o/W", b"go", descriptor) for descriptor in FIELDS + DESCRIPTORS]
+    rows += [(b"", b"f", b"I"), (b"o", b"", b"I"), (b"", b"", b"x"), (b"o.W;[/(%", b"a.b;[/(%", b"La.b[/(%;"),
+             (b"\xc3\xa9\xc0\x80", b"\xed\xa0\x81\xed\xb0\x80", b"L\xe2\x82\xac;"), (b"o" * 65535, b"n" * 65535, b"I"),
+             (b"[I", b"length", b"I"), (b"p/A", b"m", b"I"), (b"[[La/b;", b"<init>", b"[[J")]
+    for owner, name, descriptor in rows:
+        kit = Kit()
+        named = kit.pool.called(owner, name, descriptor, 9)
+        for opcode in STATICS + OTHERS[:2]:
+            yield kit.coded(bytes([opcode]) + u2(named) + RETURN)
+        yield kit.coded(b"\xb2" + u2(kit.static) + RETURN + b"\xb3" + u2(named) + b"\xb3" + u2(named))
+        method = kit.pool.entry(10, kit.this, named - 1)
+        yield kit.coded(b"\xb2" + u2(named) + b"\xb8" + u2(method))
+        yield kit.coded(b"\xb8" + u2(method) + b"\xb2" + u2(named))
+    for name in sorted({owner for owner, _, _ in rows} | {b"/", b"a//b", b"[", b"[[Z", b"x" * 300}):
+        kit = Kit()
+        made = u2(kit.pool.named(name))
+        for code in (b"\xbb" + made, b"\xbd" + made, b"\xbb" + u2(kit.this) + b"\xbb" + made + RETURN):
+            yield kit.coded(code)
 
 
 def attribute_edges(kit):
@@ -254,13 +301,79 @@ def class_edges(kit):
         yield good.replace(b"\0\x01" + u2(names[0]) + u2(kit.kind), flags + u2(names[0]) + u2(kit.kind), 1)
     for flags in (b"\x00\x20", b"\x80\x00"):
         yield good.replace(b"\x06\x01" + u2(kit.this), flags + u2(kit.this), 1)
-    for number, opcode in enumerate(REFUSED):
+    for opcode in STATICS + (DYNAMIC, NEW):
         for place in (0, 1, 5):
-            body = b"\x00" * place + bytes([opcode]) + u2((kit.field, kit.field, 0, kit.this)[number]) + b"\0\0" + RETURN
+            body = b"\x00" * place + bytes([opcode]) + u2(kit.index(opcode)) + b"\0\0" + RETURN
             yield kit.coded(body)
         yield kit.coded(b"\x10" + bytes([opcode]) + RETURN)
         yield kit.coded(b"\x11" + bytes([opcode]) * 2 + RETURN)
         yield kit.coded(table(0, 0, 0)[:-4] + bytes([opcode]) * 4 + RETURN)
+
+
+def field_edges():
+    """Fields of each name, descriptor, index and attribute."""
+    for descriptor in FIELDS + DESCRIPTORS:
+        kit = Kit()
+        kind = kit.pool.utf8(descriptor)
+        yield kit.with_fields((kit.name, kind, b"\0\0"))
+        yield kit.with_fields((kit.name, kit.int, b"\0\0"), (kit.name, kind, b"\0\0"))
+    for name in (b"", b"a.b;[/", b"<init>", b"\xc0\x80", b"Code", b"BootstrapMethods", b"n" * 65535):
+        kit = Kit()
+        yield kit.with_fields((kit.pool.utf8(name), kit.int, b"\0\0"))
+    kit = Kit()
+    good = (kit.name, kit.int, b"\0\0")
+    for count in (0, 1, 2, 255, 256, 300, 65535):
+        yield kit.with_fields(*[good] * count)
+    for index in list(range(len(kit.pool.parts) + 3)) + [0xFFFF, 0x0100 + kit.name]:
+        yield kit.with_fields(good, (index, kit.int, b"\0\0"))
+        yield kit.with_fields(good, (kit.name, index, b"\0\0"))
+        yield kit.with_fields(good, (index, index, b"\0\0"))
+        yield kit.with_fields((kit.name, kit.int, attributes(attribute(index, b"ab"))), good)
+    yield from field_attribute_edges(kit)
+
+
+def field_attribute_edges(kit):
+    """Attributes of fields, and fields that are cut or have another count."""
+    note, empty = attribute(kit.note, b"abc"), attribute(kit.code, b"")
+    code = attribute(kit.code, code_content(b"\xb8" + u2(kit.method)))
+    boot = attribute(kit.bootstrap, b"\0\0")
+    good = (kit.name, kit.int, b"\0\0")
+    for rows in ((note,), (note, note), (empty,), (code,), (code, code), (code, empty, note), (boot,), (note, boot), (boot, note),
+                 (code, boot), (boot[:2] + u4(9),), (note,) * 300, (note,) * 300 + (boot,)):
+        field = (kit.name, kit.int, attributes(*rows))
+        yield kit.with_fields(field)
+        yield kit.with_fields(good, field, good)
+        yield kit.with_fields(field, flags=FLAGS | MODULE)
+    for length in (0, 1, 2, 4, 5, 9, 1000, 0x80000000, 0xFFFFFFFF, 0x01000003):
+        yield kit.with_fields((kit.name, kit.int, attributes(attribute(kit.note, b"abc", length))), good)
+    for count in (0, 2, 3, 0x0100, 0xFFFF):
+        yield kit.with_fields((kit.name, kit.int, u2(count) + note), good)
+    whole = kit.with_fields((kit.name, kit.int, attributes(note, code)), good)
+    front = len(kit.with_fields()) - 20
+    for length in range(front, len(whole)):
+        yield whole[:length]
+    start = whole.index(u2(2) + b"\0\1" + u2(kit.name) + u2(kit.int), front - 20)
+    for count in (0, 1, 3, 0x0102, 0x0200, 0xFFFF):
+        yield whole[:start] + u2(count) + whole[start + 2:]
+
+
+def module_edges():
+    """Modules, good and with a fault in each part."""
+    kit = Kit()
+    good = kit.coded(kit.everything())
+    for body in (good, kit.with_fields((kit.name, kit.int, b"\0\0")), kit.body()):
+        for flags in (0x8000, 0x8001, 0xFFFF, 0x7FFF, 0x0080, 0x4000):
+            yield body.replace(u2(FLAGS) + u2(kit.this), u2(flags) + u2(kit.this), 1)
+    yield as_module(good) + b"\0"
+    yield as_module(good)[:-1]
+    for make in (field_edges, field_reference_edges):
+        for number, body in enumerate(make()):
+            if number % 4 == 0 and len(body) < 5000:
+                yield as_module(body)
+    for make in (attribute_edges, class_edges, switch_edges):
+        for number, body in enumerate(make(Kit())):
+            if number % 5 == 0 and len(body) < 5000:
+                yield as_module(body)
 
 
 def edges():
@@ -270,6 +383,8 @@ def edges():
         yield from make(kit)
     yield from class_edges(Kit())
     yield from descriptor_edges()
+    yield from field_edges()
+    yield from module_edges()
 
 
 LENGTHS = [1] * 6 + [2] * 2 + [3] * 3
@@ -294,7 +409,7 @@ def random_code(kit, chance):
             code += fixed(chance)
         elif what < 0.8:
             opcode = chance.choice(SITES)
-            index = kit.face if opcode == 185 or opcode > 182 and chance.random() < 0.3 else kit.method
+            index = kit.face if opcode in (183, 184) and chance.random() < 0.3 else kit.index(opcode)
             code += bytes([opcode]) + u2(index) + (b"\x01\x00" if opcode == 185 else b"")
         elif what < 0.88:
             low = chance.randrange(-3, 3)
@@ -310,8 +425,18 @@ def random_code(kit, chance):
     return code
 
 
-def nearly(chance):
-    """A random class file with bodies that is often plain, and else only just not."""
+def some_fields(kit, chance):
+    """A few random fields, most of them good."""
+    fields = []
+    for number in range(chance.choice((0, 0, 1, 2, 3))):
+        rows = [attribute(chance.choice((kit.note, kit.code)), bytes(chance.randrange(4))) for _ in range(chance.choice((0, 0, 1)))]
+        kind = chance.choice((b"I", b"[J", b"La/b;", b"[[La/b;")) if chance.random() < 0.99 else chance.choice(FIELDS)
+        fields.append((kit.pool.utf8(b"f%d" % number), kit.pool.utf8(kind), attributes(*rows)))
+    return fields
+
+
+def nearly(chance, flags=FLAGS):
+    """A random class file with fields and bodies that is often plain, and else only just not."""
     kit = Kit()
     methods = []
     for number in range(chance.randrange(1, 4)):
@@ -323,11 +448,13 @@ def nearly(chance):
                 content = content[:chance.randrange(len(content))]
             rows.insert(chance.randrange(len(rows) + 1), attribute(kit.code, content))
         methods.append((kit.pool.utf8(b"m%d" % number), kit.kind, attributes(*rows)))
-    return class_file(kit.pool, kit.this, methods)
+    return class_file(kit.pool, kit.this, methods, fields=some_fields(kit, chance), flags=flags)
 
 
 def dense():
-    """A class file with a bit of everything in its code, for mutations."""
+    """A class file with a bit of everything in its code and with fields, for mutations."""
     kit = Kit()
     content = code_content(kit.everything(), b"12345678", attributes(attribute(kit.note, b"in")))
-    return kit.body(attribute(kit.note, b""), attribute(kit.code, content))
+    rows = attributes(attribute(kit.note, b""), attribute(kit.code, content))
+    fields = [(kit.name, kit.int, b"\0\0"), (kit.note, kit.pool.utf8(b"[La/b;"), attributes(attribute(kit.note, b"in")))]
+    return class_file(kit.pool, kit.this, [(kit.name, kit.kind, rows)], fields=fields)

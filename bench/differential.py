@@ -23,7 +23,7 @@ import code_edges
 import hostile
 import measure
 import plain
-from hostile import Pool, class_file, u2, u4
+from hostile import FLAGS, MODULE, Pool, as_module, class_file, u2, u4
 
 SEED = 20240229
 SOURCE = """package p.q$r;
@@ -35,6 +35,8 @@ abstract class C extends Thread {
     int c(int a, java.util.List<String> b) { switch (a) { case 1: b.get(a).trim(); case 2: return Math.abs(a); default: }
         switch (a) { case 7: run(); case 900: b.size(); } try { return c(a, b); } finally { b.clear(); } }
 }
+class D { static int i = 3; static final String S = "s"; private long[] l; enum \u00c9 { P; D d = new D(); static D e = P.d; }
+    D n(D a) { i += System.out.hashCode(); return i > 3 ? n(new D()) : new D[][] { { a } }[0].clone()[0]; } }
 """
 
 
@@ -55,7 +57,8 @@ def rich():
     code = pool.utf8(b"Cod")
     more = u2(2) + u2(note) + u4(3) + b"abc" + u2(code) + u4(0)
     methods = [(names[0], kinds[0], more), (names[0], kinds[1], b"\0\0"), (names[1], kinds[0], b"\0\0")]
-    return class_file(pool, this, methods, u2(face) + u2(above), u2(1) + u2(note) + u4(2) + b"xy", above)
+    fields = [(names[0], pool.utf8(b"[[J"), more), (names[1], pool.utf8(b"Lq;"), b"\0\0"), (names[1], pool.utf8(b"D"), b"\0\0")]
+    return class_file(pool, this, methods, u2(face) + u2(above), u2(1) + u2(note) + u4(2) + b"xy", above, fields)
 
 
 def of_javac():
@@ -140,7 +143,7 @@ BAD = [b"\x00", b"\x80", b"\xf0\x90\x90\x80", b"(V)V", b"()", b"(L;)V", b"([)V",
 def nearly(chance):
     """A random class file that is often plain, and else only just not."""
     texts = [chance.choice(TEXTS if chance.random() < 0.995 else BAD) for _ in range(chance.randrange(2, 6))]
-    texts += [b"A", b"m", b"()V", b"(I)V"]
+    texts += [b"A", b"m", b"()V", b"(I)V", b"[La;"]
     chance.shuffle(texts)
     entries = texts + [None] * chance.randrange(1, 5)
     chance.shuffle(entries)
@@ -175,9 +178,12 @@ def nearly(chance):
         if pair not in seen or chance.random() < 0.1:
             seen.add(pair)
             methods.append((name, kind, attributes()))
+    fields = [(pick(lambda t: t), pick(lambda t: t is not None and plain.is_field_descriptor(t)), attributes())
+              for _ in range(chance.choice((0, 0, 1, 2, 3)))]
     faces = b"".join(u2(pick(lambda t: t is None)) for _ in range(chance.randrange(3)))
     above = chance.choice((0, pick(lambda t: t is None)))
-    return class_file(pool, pick(lambda t: t is None), methods, faces, attributes(), above)
+    flags = FLAGS | (MODULE if chance.random() < 0.1 else 0)
+    return class_file(pool, pick(lambda t: t is None), methods, faces, attributes(), above, fields, flags)
 
 
 def with_descriptor(text, name=b"m"):
@@ -207,24 +213,50 @@ def with_indexes(this=2, above=0, faces=(), flags=0, version=(0, 52), fields=b"\
                  + fields + tail)
 
 
-def with_attribute(name, length, body, on_method, tail=b""):
-    """A bundle of a class file with one attribute; its name is a text or an index."""
+PLACES = ("class", "field", "method")
+
+
+def with_attribute(name, length, body, where, tail=b""):
+    """A bundle of a class file with one attribute of its class, its field or its method; its name is a text or an index."""
     pool = Pool()
     this = pool.named(b"A")
     method = pool.utf8(b"m"), pool.utf8(b"()V")
     index = name if isinstance(name, int) else pool.utf8(name)
-    some = u2(1) + u2(index) + u4(length) + body
-    if on_method:
-        return alone(class_file(pool, this, [method + (some,)]) + tail)
-    return alone(class_file(pool, this, [method + (b"\0\0",)], attributes=some) + tail)
+    field = method[0], pool.utf8(b"I")
+    some = {place: b"\0\0" for place in PLACES}
+    some[where] = u2(1) + u2(index) + u4(length) + body
+    return alone(class_file(pool, this, [method + (some["method"],)], attributes=some["class"],
+                            fields=[field + (some["field"],)]) + tail)
 
 
-def class_edges():
-    """Edges of class files."""
+def module_edges():
+    """Bundles of class files and modules in several orders."""
+    body = code_edges.dense()
+    module = as_module(body)
+    small = as_module(tiny())
+    for order in ((module,), (small,), (small, module), (body, module), (module, body), (body, small, body, module), (module,) * 5,
+                  (small,) * 300, (body, module) * 20, (module + b"\0", body), (body, small[:-1])):
+        yield plain.pack([(b"%d/module-info.class" % number, one) for number, one in enumerate(order)])
+    yield plain.pack([(b"module-info.class", small), (b"module-info.class", small)])
+    yield plain.pack([(b"META-INF/versions/9/module-info.class", small)])
+    yield plain.pack([(b"module-info", small)])
+    yield plain.pack([(b"a.class", small)]) + b"\0"
+
+
+def index_edges():
+    """Versions, flags, the indexes of types and of fields, and what follows them."""
     for version in ((0, 44), (0, 45), (3, 45), (0, 65), (0xFFFF, 65), (0, 66), (65, 0), (0, 0x0134), (0, 0)):
         yield with_indexes(version=version)
     for flags in (0x7FFF, 0x8000, 0x8001, 0xFFFF):
         yield with_indexes(flags=flags)
+        for index in (0, 1, 3, 4, 5):
+            yield with_indexes(flags=flags, this=index)
+            yield with_indexes(flags=flags, above=index)
+            yield with_indexes(flags=flags, faces=[index])
+    for name, kind in ((1, 1), (3, 1), (1, 3), (0, 1), (1, 0), (2, 1), (1, 4), (5, 1)):
+        for count in (1, 2):
+            for flags in (0, 0x8000):
+                yield with_indexes(flags=flags, fields=u2(count) + (b"\0\0" + u2(name) + u2(kind) + b"\0\0") * count)
     for index in (0, 1, 2, 3, 4, 5, 6, 0x0102, 0xFFFF):
         yield with_indexes(this=index)
         yield with_indexes(above=index)
@@ -235,6 +267,10 @@ def class_edges():
     yield with_indexes(fields=b"\0\x01")
     for tail in (b"", b"\0", b"\0\0", b"\0\0\0", b"\0\0\0\0\0", b"\0\x01\0\0", b"\0\0\0\x01"):
         yield with_indexes(tail=tail)
+
+
+def pool_edges():
+    """Constant pools."""
     for index in (0, 1, 2, 3, 4, 5, 0xFFFF):
         yield with_pool(b"\x07" + u2(index) + b"\x01\0\x01B", 5)
         yield with_pool(b"\x07" + u2(index) + b"\x01\0\x01B", 5, this=3)
@@ -246,14 +282,22 @@ def class_edges():
             yield with_pool(bytes([tag]) + bytes(size), 5 if tag in (5, 6) else 4)
     for text in utf8_edges():
         yield with_pool(b"\x01" + u2(len(text)) + text, 4)
-    for method in (True, False):
+
+
+def attribute_edges():
+    """Attributes of the class, of a field and of a method."""
+    for place in PLACES:
         for name in (b"Code", b"BootstrapMethods", b"code", b"Cod", b"Codes", b"BootstrapMethod", b"BootstrapMethodsX",
                      b"bootstrapMethods", b"", b"C", b"Code\xc0\x80", 0, 2, 6, 0xFFFF):
-            yield with_attribute(name, 2, b"ab", method)
+            yield with_attribute(name, 2, b"ab", place)
         for length, body in ((0, b""), (1, b""), (3, b"ab"), (1, b"ab"), (0xFFFFFFFF, b"ab"), (0x80000000, b"ab"),
                              (0x01000002, b"ab"), (4, b"Code"), (70000, bytes(70000))):
-            yield with_attribute(b"N", length, body, method)
-        yield with_attribute(b"N", 0, b"", method, b"\0")
+            yield with_attribute(b"N", length, body, place)
+        yield with_attribute(b"N", 0, b"", place, b"\0")
+
+
+def method_edges():
+    """Names and descriptors of methods, and texts of every byte."""
     for name in (b"", b"<clinit>", b"a.b;[/", b"Code", b"n" * 65535):
         yield with_descriptor(b"()V", name)
     yield with_methods([(b"a", b"()V"), (b"a", b"()V")])
@@ -275,6 +319,12 @@ def class_edges():
         this = pool.class_entry(index)
         kind = pool.utf8(b"(L" + word + b";)L" + word + b";")
         yield alone(class_file(pool, this, [(index, kind, b"\0\0")]))
+
+
+def class_edges():
+    """Edges of class files."""
+    for make in (index_edges, pool_edges, attribute_edges, method_edges):
+        yield from make()
 
 
 def utf8_edges():
@@ -369,6 +419,7 @@ def inputs():
     yield from (("edges of class files", data) for data in class_edges())
     yield from (("edges of descriptors", with_descriptor(text)) for text in descriptor_edges())
     yield from (("edges of code", alone(body)) for body in code_edges.edges())
+    yield from (("edges of modules", data) for data in module_edges())
     pair = plain.pack([(b"p/A.class", bases[0]), (b"B.class", bases[0])])
     yield from (("bundle, byte changed", data) for data in bytes_changed(pair))
     yield from (("bundle, truncated", data) for data in truncated(pair))
@@ -382,10 +433,13 @@ def inputs():
         yield from (("class file, edits", alone(data)) for data in edited(body, chance, 200))
     yield from (("class file, nearly plain", alone(nearly(chance))) for _ in range(600))
     yield from (("code, nearly plain", alone(code_edges.nearly(chance))) for _ in range(1000))
+    yield from (("module, nearly plain", alone(code_edges.nearly(chance, FLAGS | MODULE))) for _ in range(200))
     for count in (2, 3, 5):
         for _ in range(20):
             yield "bundle, nearly plain", plain.pack(
                 [(b"%d.class" % number, chance.choice((nearly, code_edges.nearly))(chance)) for number in range(count)])
+            yield "bundle, nearly plain, modules", plain.pack(
+                [(b"%d.class" % number, code_edges.nearly(chance, chance.choice((FLAGS, FLAGS | MODULE)))) for number in range(count)])
 
 
 def run_in_pieces(data, size, words):

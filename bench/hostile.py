@@ -92,14 +92,25 @@ class Pool:
         return u2(len(self.parts) + 1) + b"".join(self.parts)
 
 
-def class_file(pool, this, methods=(), interfaces=b"", attributes=b"\x00\x00", super_index=0):
-    """A class file; each method is (name index, descriptor index, count and bytes of attributes)."""
-    parts = [b"\xca\xfe\xba\xbe\x00\x00\x00\x34", pool.data(), b"\x06\x01", u2(this), u2(super_index),
-             u2(len(interfaces) // 2), interfaces, b"\x00\x00", u2(len(methods))]
-    for name, descriptor, more in methods:
-        parts.append(b"\x00\x01" + u2(name) + u2(descriptor) + more)
+FLAGS = 0x0601
+MODULE = 0x8000
+
+
+def class_file(pool, this, methods=(), interfaces=b"", attributes=b"\x00\x00", super_index=0, fields=(), flags=FLAGS):
+    """A class file; each field and method is (name index, descriptor index, count and bytes of attributes)."""
+    parts = [b"\xca\xfe\xba\xbe\x00\x00\x00\x34", pool.data(), u2(flags), u2(this), u2(super_index),
+             u2(len(interfaces) // 2), interfaces]
+    for members in (fields, methods):
+        parts.append(u2(len(members)))
+        parts += [b"\x00\x01" + u2(name) + u2(descriptor) + more for name, descriptor, more in members]
     parts.append(attributes)
     return b"".join(parts)
+
+
+def as_module(body):
+    """A class file of class_file, whose class is its pool's second entry, as a module."""
+    tail = u2(2)
+    return body.replace(u2(FLAGS) + tail, u2(FLAGS | MODULE) + tail, 1)
 
 
 def code_content(code, rows=b"", inner=b"\0\0", length=None):
@@ -247,6 +258,62 @@ def descriptor_body(descriptor, methods=1):
     return class_file(pool, this, [(name, kind, b"\0\0") for name in names])
 
 
+def fields_body(count=U2, name=b"f" * U2, descriptor=b"L" + b"c" * (U2 - 2) + b";", rows=0):
+    """A class file of `count` fields of one name and descriptor, each with `rows` empty attributes."""
+    pool = Pool()
+    this = pool.named(b"A")
+    word = pool.utf8(b"N" * U2)
+    field = pool.utf8(name), pool.utf8(descriptor), u2(rows) + (u2(word) + u4(0)) * rows
+    return class_file(pool, this, fields=[field] * count)
+
+
+def own_fields(part, length=1000):
+    """A class file of some 32,700 fields, each of a name and a descriptor of its own that share a front."""
+    pool = Pool()
+    this = pool.named(b"A")
+    fields = []
+    for number in range(int((POOL - 2) // 2 * part)):
+        word = b"n" * length + stem(number)
+        fields.append((pool.utf8(word), pool.utf8(b"L" + word + b";"), b"\0\0"))
+    return class_file(pool, this, fields=fields)
+
+
+def kinds_of_fields(part, descriptor):
+    """A class file of some 65,500 fields of a short descriptor of entries of their own."""
+    pool = Pool()
+    this = pool.named(b"A")
+    name = pool.utf8(b"f")
+    return class_file(pool, this, fields=[(name, pool.utf8(descriptor), b"\0\0") for _ in range(int((POOL - 3) * part))])
+
+
+def field_cases():
+    """Each case of fields and modules: its name, a function of its part, whether it has a quarter, and its commands."""
+    both = ("list", "sites")
+    small = as_module(smallest())
+    yield "65535 fields of a name and a descriptor of 65535 bytes", lambda part: one(fields_body(int(U2 * part))), True, both
+    yield "the same, copies to the limit", lambda part: full(fields_body(), int(LIMIT * part)), True, both
+    yield "the same, copies to the limit, refused", lambda part: spoiled(full(fields_body(), int(LIMIT * part))), False, both
+    yield ("65535 fields of a descriptor of 255 arrays of one class name",
+           lambda part: one(fields_body(int(U2 * part), descriptor=b"[" * 255 + b"L" + b"c" * (U2 - 257) + b";")), True, both)
+    yield "65535 fields with 160 attributes each", lambda part: one(fields_body(int(U2 * part), rows=160)), True, both
+    yield "65535 empty attributes on 170 fields", lambda part: one(fields_body(int(169 * part), rows=U2)), True, both
+    yield "32766 fields of names and descriptors sharing 1000 bytes", lambda part: one(own_fields(part)), True, both
+    yield ("65531 fields of a descriptor of 255 arrays, each in an entry of its own",
+           lambda part: one(kinds_of_fields(part, b"[" * 255 + b"J")), True, both)
+    yield "65535 fields of a short name", lambda part: one(fields_body(int(U2 * part), b"f", b"I")), True, both
+    yield "the same, copies to the limit", lambda part: full(fields_body(U2, b"f", b"I"), int(LIMIT * part)), True, both
+    yield "smallest modules", lambda part: many(small, int(LIMIT * part)), True, both
+    yield "the same, the last refused", lambda part: spoiled(many(small, int(LIMIT * part))), False, both
+    yield ("modules of 1000000 calls each",
+           lambda part: bundle_of(*[as_module(calls(1000000))] * int(20 * part)), True, both)
+    yield ("the same, and 4000000 calls in four class files",
+           lambda part: bundle_of(*[as_module(calls(1000000))] * 8, *[calls(1000000)] * 4), False, ("list",))
+    yield "the same, and 1000001 calls in a module, refused", lambda part: bundle_of(as_module(calls(1000001))), False, both
+    yield ("modules of 1000000 calls of one long reference",
+           lambda part: bundle_of(*[as_module(calls(PER_CODE * 45, b"o" * U2, b"n" * U2, LONG_CLASS))] * int(16 * part)), True, both)
+    yield "modules of 65535 fields to the limit", lambda part: full(as_module(fields_body()), int(LIMIT * part)), True, both
+
+
 def sized(size):
     """A plain bundle of exactly `size` bytes: one class file with one long attribute."""
     pool = Pool()
@@ -337,6 +404,9 @@ def long_type():
 
 PER_CODE = U2 // 3
 STATIC = b"\xb8"
+GET = b"\xb2"
+PUT = b"\xb3"
+NEW = b"\xbb"
 
 
 def coded(pool, this, code, methods, more=b""):
@@ -348,17 +418,24 @@ def coded(pool, this, code, methods, more=b""):
     return class_file(pool, this, [(name, kind, some) for name in names])
 
 
-def calls(sites, owner=b"A", name=b"a", descriptor=b"()V"):
-    """A class file of so many calls of one method, 21,845 to a code."""
+def named_by(pool, opcode, owner, name, descriptor):
+    """A new entry that a site of this opcode may name."""
+    if opcode == NEW:
+        return pool.named(owner)
+    return pool.called(owner, name, descriptor, 9 if opcode in (GET, PUT) else 10)
+
+
+def calls(sites, owner=b"A", name=b"a", descriptor=b"()V", opcode=STATIC):
+    """A class file of so many calls of one method, or other sites of three bytes, 21,845 to a code."""
     pool = Pool()
     this = pool.named(b"A")
-    called = pool.called(owner, name, descriptor)
+    called = named_by(pool, opcode, owner, name, descriptor)
     kind = pool.utf8(b"()V")
     word = pool.utf8(b"Code")
     methods = []
     while sites > 0:
         count = min(sites, PER_CODE)
-        some = attributes(attribute(word, code_content((STATIC + u2(called)) * count)))
+        some = attributes(attribute(word, code_content((opcode + u2(called)) * count)))
         methods.append((pool.utf8(stem(len(methods))), kind, some))
         sites -= count
     return class_file(pool, this, methods)
@@ -376,6 +453,47 @@ def caller(sites, name, descriptor=b"()V"):
 def bundle_of(*bodies):
     """A bundle of class files."""
     return plain.pack([(b"%d.class" % number, body) for number, body in enumerate(bodies)])
+
+
+def each_named(count, opcode, front=0, rounds=1):
+    """A class file whose sites name `count` types or fields of their own, `rounds` times each; names share a front."""
+    pool = Pool()
+    this = pool.named(b"A")
+    kind = pool.utf8(b"I")
+    indexes = []
+    for number in range(count):
+        name = pool.utf8(b"n" * front + stem(number))
+        indexes.append(pool.class_entry(name) if opcode == NEW else pool.entry(9, this, pool.entry(12, name, kind)))
+    void = pool.utf8(b"()V")
+    word = pool.utf8(b"Code")
+    code = b"".join(opcode + u2(index) for index in indexes[:PER_CODE])
+    some = attributes(attribute(word, code_content(code)))
+    return class_file(pool, this, [(pool.utf8(stem(number)), void, some) for number in range(rounds)])
+
+
+def site_cases():
+    """Each case of types that are made and of static fields."""
+    both = ("list", "sites")
+    long, most = b"n" * U2, PER_CODE * 45
+    field = b"L" + b"c" * (U2 - 2) + b";"
+    for opcode, what in ((NEW, "new"), (GET, "getstatic"), (PUT, "putstatic")):
+        yield ("1000000 times %s in one class file" % what,
+               lambda part, o=opcode: one(calls(int(1000000 * part), descriptor=b"I", opcode=o)), True, both)
+        yield ("1000001 times %s in one class file, refused" % what,
+               lambda part, o=opcode: one(calls(1000001, descriptor=b"I", opcode=o)), False, both)
+        yield ("4000000 times %s in four class files" % what,
+               lambda part, o=opcode: bundle_of(*[calls(int(1000000 * part), descriptor=b"I", opcode=o)] * 4), False, ("list",))
+        yield ("983025 times %s of one long name" % what,
+               lambda part, o=opcode: one(calls(int(most * part), long, long, field, o)), True, ("list",))
+        yield ("the same, in four class files, refused",
+               lambda part, o=opcode: spoiled(bundle_of(*[calls(int(most * part), long, long, field, o)] * 4)), True, both)
+        yield ("20000 names sharing 1000 bytes, each in 40 times %s" % what,
+               lambda part, o=opcode: one(each_named(20000, o, 1000, int(40 * part))), True, both)
+    yield "21845 times new of a name of 65535 bytes", lambda part: one(calls(int(PER_CODE * part), long, opcode=NEW)), True, both
+    yield ("21845 times getstatic of a name of 65535 bytes",
+           lambda part: one(calls(int(PER_CODE * part), name=long, descriptor=b"I", opcode=GET)), True, both)
+    yield ("21845 times putstatic of 65535 escaped bytes",
+           lambda part: one(calls(int(PER_CODE * part), name=b"/" * U2, descriptor=b"I", opcode=PUT)), False, both)
 
 
 def each_called(count, names=None, descriptor=b"()V", rounds=1):
@@ -556,6 +674,8 @@ def all_cases():
     for name, build, quarters in cases():
         yield name, build, quarters, ("list",)
     yield from code_cases()
+    yield from site_cases()
+    yield from field_cases()
 
 
 def chosen(options):

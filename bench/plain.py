@@ -5,6 +5,7 @@ It is written from the formats' description (after JVMS 4) and shares no code wi
 the two can be compared byte by byte. As a script it answers as `fcg list` or `fcg sites` should.
 """
 
+import collections
 import re
 import struct
 import sys
@@ -24,6 +25,10 @@ _UTF8 = re.compile(rb"(?:[\x01-\x7f]|[\xc0-\xdf][\x80-\xbf]|[\xe0-\xef][\x80-\xb
 _FIELD = re.compile(rb"\[{0,255}(?:[BCFISZ]|([DJ])|L[^;]+;)", re.S)
 _WORD = b"ABCDEFGHIJKLMNOPQRSTUVWXYZabcdefghijklmnopqrstuvwxyz0123456789_-$"
 _FORBIDDEN = b"BootstrapMethods"
+_MODULE = 0x8000
+
+# what is read of a class file: the pairs of name and descriptor of its fields, and of each method these and its sites
+View = collections.namedtuple("View", "name module fields methods")
 
 
 class _NotPlain(Exception):
@@ -61,7 +66,12 @@ def is_method_descriptor(text):
             return False
         at = field.end()
     rest = text[at + 1:]
-    return rest == b"V" or _FIELD.fullmatch(rest) is not None
+    return rest == b"V" or is_field_descriptor(rest)
+
+
+def is_field_descriptor(text):
+    """Whether `text` is a field descriptor."""
+    return _FIELD.fullmatch(text) is not None
 
 
 class _Reader:
@@ -179,9 +189,11 @@ _THREE = _set(17, 19, 20, 132, (153, 168), 180, 181, 189, 192, 193, 198, 199)
 _FIVE = _set(200, 201)
 _PASSED = re.compile(b"(?:%s+|%s.|%s.|%s..|\\xc5...|%s....|\\xc4%s..|\\xc4\\x84....)*"
                      % (_ONE, _LOCAL, _TWO, _THREE, _FIVE, _LOCAL), re.S)
-# the instructions of sites: the kind, the length, and the tags of what is called
-_CALLS = {182: (b"virtual", 3, (10,)), 183: (b"special", 3, (10, 11)), 184: (b"static", 3, (10, 11)),
+# the instructions of sites: the kind, the length, and the tags of what is named
+_SITES = {178: (b"staticfield", 3, (9,)), 179: (b"staticfield", 3, (9,)), 187: (b"new", 3, (7,)),
+          182: (b"virtual", 3, (10,)), 183: (b"special", 3, (10, 11)), 184: (b"static", 3, (10, 11)),
           185: (b"interface", 5, (11,))}
+_KINDS = {9: is_field_descriptor, 10: is_method_descriptor, 11: is_method_descriptor}
 _TABLE = 170
 _LOOKUP = 171
 
@@ -209,39 +221,55 @@ class _Body:
     def __init__(self, pool):
         self.pool = pool
         self.descriptors = set()
-        self.calls = {}
+        self.targets = {}
         self.sites = 0
 
-    def descriptor(self, index):
-        """The method descriptor at `index` of the pool."""
+    def name(self, index):
+        """The name, not empty, at `index` of the pool."""
         text = _utf8(self.pool, index)
-        if text not in self.descriptors:
-            _need(is_method_descriptor(text))
-            self.descriptors.add(text)
+        _need(text)
         return text
 
-    def call(self, start):
-        """The kind, owner, name and descriptor of a call by its opcode and index, and its length."""
-        if start not in self.calls:
+    def descriptor(self, index, is_right=is_method_descriptor):
+        """The descriptor at `index` of the pool, which is right."""
+        text = _utf8(self.pool, index)
+        if (text, is_right) not in self.descriptors:
+            _need(is_right(text))
+            self.descriptors.add((text, is_right))
+        return text
+
+    def member(self, index, tags):
+        """The owner, name and descriptor of the method or field at `index`, which has one of these tags."""
+        place, pair = _entry(self.pool, index, tags)
+        owner = _class_name(self.pool, place)
+        name, descriptor = _entry(self.pool, pair, (12,))
+        return owner, self.name(name), self.descriptor(descriptor, _KINDS[tags[0]])
+
+    def target(self, start):
+        """The kind, owner, name and descriptor of a site by its opcode and index, and its length.
+
+        A `new` names an owner alone; its name and descriptor are empty.
+        """
+        if start not in self.targets:
             _need(len(start) == 3)
-            kind, length, tags = _CALLS[start[0]]
-            place, pair = _entry(self.pool, int.from_bytes(start[1:], "big"), tags)
-            owner = _class_name(self.pool, place)
-            name, descriptor = _entry(self.pool, pair, (12,))
-            name = _utf8(self.pool, name)
-            _need(name)
-            self.calls[start] = (kind, owner, name, self.descriptor(descriptor)), length
-        return self.calls[start]
+            kind, length, tags = _SITES[start[0]]
+            index = int.from_bytes(start[1:], "big")
+            if tags == (7,):
+                named = _class_name(self.pool, index), b"", b""
+            else:
+                named = self.member(index, tags)
+            self.targets[start] = (kind, *named), length
+        return self.targets[start]
 
     def code(self, code):
-        """The sites of the instructions of a method: each its place and its call."""
+        """The sites of the instructions of a method: each its place and its target."""
         sites = []
         at = 0
         while at < len(code):
             opcode = code[at]
-            if opcode in _CALLS:
-                call, length = self.call(code[at:at + 3])
-                sites.append((at, call))
+            if opcode in _SITES:
+                target, length = self.target(code[at:at + 3])
+                sites.append((at, target))
                 at += length
                 _need(at <= len(code))
             elif opcode in (_TABLE, _LOOKUP):
@@ -272,6 +300,29 @@ class _Body:
             _need(_utf8(self.pool, reader.u2()) != _FORBIDDEN)
             reader.take(reader.u4())
 
+    def fields(self, reader):
+        """The names and descriptors of the fields."""
+        found = []
+        for _ in range(reader.u2()):
+            reader.u2()
+            name = self.name(reader.u2())
+            found.append((name, self.descriptor(reader.u2(), is_field_descriptor)))
+            self.attributes(reader)
+        return found
+
+    def methods(self, reader):
+        """The names, descriptors and sites of the methods."""
+        found = []
+        seen = set()
+        for _ in range(reader.u2()):
+            reader.u2()
+            name = self.name(reader.u2())
+            pair = name, self.descriptor(reader.u2())
+            _need(pair not in seen)
+            seen.add(pair)
+            found.append((*pair, self.method_attributes(reader)))
+        return found
+
     def method_attributes(self, reader):
         """The sites of a method, where its Code attribute is among its attributes."""
         found = None
@@ -292,35 +343,26 @@ def _read_class(data):
     reader.u2()
     _need(45 <= reader.u2() <= 65)
     pool = _read_pool(reader)
-    _need(reader.u2() & 0x8000 == 0)
+    module = reader.u2() & _MODULE != 0
     name = _class_name(pool, reader.u2())
     super_index = reader.u2()
     if super_index != 0:
         _class_name(pool, super_index)
     for _ in range(reader.u2()):
         _class_name(pool, reader.u2())
-    _need(reader.u2() == 0)
     body = _Body(pool)
-    methods = []
-    seen = set()
-    for _ in range(reader.u2()):
-        reader.u2()
-        method = _utf8(pool, reader.u2())
-        _need(method)
-        descriptor = body.descriptor(reader.u2())
-        _need((method, descriptor) not in seen)
-        seen.add((method, descriptor))
-        methods.append((method, descriptor, body.method_attributes(reader)))
+    fields = body.fields(reader)
+    methods = body.methods(reader)
     body.attributes(reader)
     _need(reader.at == len(data))
-    return name, methods
+    return View(name, module, fields, methods)
 
 
 def read_class(data):
-    """The name of a plain class file and its methods, or None.
+    """The View of a plain class file, or None; that of a module is marked as such.
 
-    A method is its name, descriptor and sites; a site is its place and its call, which is the kind and the
-    owner, name and descriptor of what is called.
+    A field is its name and descriptor, a method its name, descriptor and sites. A site is its place and its
+    target, which is the kind and the owner, name and descriptor of what is named.
     """
     try:
         return _read_class(data)
@@ -372,8 +414,13 @@ def pack(entries):
     return b"".join(parts)
 
 
+def count_sites(view):
+    """The number of sites of a view."""
+    return sum(len(sites) for _, _, sites in view.methods)
+
+
 def views(bundle):
-    """The (name, methods) pair of each entry of a plain bundle, or None where the bytes are none."""
+    """The View of each entry of a plain bundle that isn't a module, or None where the bytes are none."""
     entries = unpack(bundle)
     if entries is None:
         return None
@@ -384,13 +431,15 @@ def views(bundle):
         if not path.endswith(b".class") or path.startswith(b"META-INF/versions/"):
             return None
         if body not in known:
-            view = read_class(body)
-            known[body] = view, 0 if view is None else sum(len(method[2]) for method in view[1])
-        view, count = known[body]
-        sites += count
-        if view is None or sites > BUNDLE_SITES:
+            known[body] = read_class(body)
+        view = known[body]
+        if view is None:
             return None
-        found.append(view)
+        if not view.module:
+            sites += count_sites(view)
+            found.append(view)
+        if sites > BUNDLE_SITES:
+            return None
     return found
 
 
@@ -410,20 +459,26 @@ class _Texts:
         """The name of a type."""
         return self.part(name, b"/")
 
-    def method(self, name, descriptor):
-        """The name and descriptor of a method."""
+    def member(self, name, descriptor):
+        """The name and descriptor of a method or a field."""
         return self.part(name, b"") + self.part(descriptor, b"/();[")
+
+    def target(self, kind, owner, name, descriptor):
+        """What a site names."""
+        if kind == b"new":
+            return self.type(owner)
+        return self.type(owner) + b"." + self.member(name, descriptor)
 
 
 def list_lines(found):
     """The lines that `fcg list` prints for the views of a plain bundle, one after the other."""
     texts = _Texts()
     count = 0
-    for name, methods in found:
-        yield b"type " + texts.type(name) + b"\n"
-        for method, descriptor, _ in methods:
-            yield b"method " + texts.method(method, descriptor) + b"\n"
-        count += len(methods)
+    for view in found:
+        yield b"type " + texts.type(view.name) + b"\n"
+        for method, descriptor, _ in view.methods:
+            yield b"method " + texts.member(method, descriptor) + b"\n"
+        count += len(view.methods)
     yield b"types %d methods %d\n" % (len(found), count)
 
 
@@ -431,12 +486,12 @@ def site_lines(found):
     """The lines that `fcg sites` prints for the views of a plain bundle, one after the other."""
     texts = _Texts()
     count = 0
-    for name, methods in found:
-        for method, descriptor, sites in methods:
+    for view in found:
+        for method, descriptor, sites in view.methods:
             if sites:
-                front = b"site " + texts.type(name) + b"." + texts.method(method, descriptor)
-            for place, (kind, owner, called, kinds) in sites:
-                yield b"%s %d %s %s.%s\n" % (front, place, kind, texts.type(owner), texts.method(called, kinds))
+                front = b"site " + texts.type(view.name) + b"." + texts.member(method, descriptor)
+            for place, target in sites:
+                yield b"%s %d %s %s\n" % (front, place, target[0], texts.target(*target))
             count += len(sites)
     yield b"sites %d\n" % count
 

@@ -4,12 +4,15 @@
 The class files come from every javac on the machine, for sources written here, from the modules of every
 JDK on the machine, and from the jars below some folders; the plain ones among them are picked by plain.py.
 The texts of ./fcg list and ./fcg sites are compared byte by byte with those of plain.py; their types,
-methods and sites with those that javap prints. Then ./fcg is timed beside cat and javap.
+fields, methods and sites with those that javap prints: of each class file of the oldest JDK, and of a share of
+the others. Then ./fcg is timed beside cat and javap.
 """
 
 import argparse
+import collections
 import glob
 import hashlib
+import itertools
 import os
 import random
 import re
@@ -27,6 +30,9 @@ import plain
 RELEASES = (8, 11, 17, 21, 25)
 GREATEST = 65
 WEIGHTY = 60000000
+SHARE = 12
+TIMED = 4000
+MANY = 200
 SEED = 20240301
 JAR_FOLDERS = ("/usr/share", "/usr/lib", "/usr/local", "/opt", "~/.m2", "~/.gradle", "~/.ivy2", "~/.cache")
 
@@ -91,8 +97,27 @@ public interface $Name$ { $Name$ $get$($Name$... $p); interface $ { $Name$.$ $()
 public interface Gr\u00f6\u00dfe { Gr\u00f6\u00dfe \u00fcber(\u540d\u524d n, \u540d\u524d[] m) throws \u00c9chec; <\u0422> \u0422 \u0442\u0438\u043f(\u0422 t);
     interface \u540d\u524d { String \U00010400\U00010401(); \u540d\u524d a\u0301(int \u03b1); } }""",
     "p\u00e4ck/\u65e5\u672c/\u00c9chec.java": "package p\u00e4ck.\u65e5\u672c; public class \u00c9chec extends Exception { }",
-    "rest/NotPlain.java": """package rest;
-public interface NotPlain { int K = 70000; default int d() { return K; } static void s() { } }""",
+    "rest/Constant.java": """package rest;
+public interface Constant { int K = 70000; default int d() { return K; } static void s() { } }""",
+    "rest/Lambda.java": "package rest; class Lambda { Runnable r() { return () -> { }; } }",
+    "members/Fields.java": """package members;
+import java.util.*;
+public class Fields<T extends Comparable<T>> {
+    static boolean z; static byte b; static char c; static short s; static int i; static long j; static float f; static double d;
+    static final int K = 3; static final long KJ = 4L; static final String KS = "caf\u00e9"; static final double KD = 0.5;
+    private transient volatile T t; protected final List<? extends T>[] ls; @Deprecated int[][] is; String $a_1; Inner inner;
+    enum Some { ONE, TWO { int n() { return i++; } }; int n() { return ordinal(); } static Some last = TWO; }
+    class Inner { T own = t; Inner next = new Inner(); class Deep extends Inner { long q = j; } Deep deep() { return new Deep(); } }
+    static class Held { static Held held = new Held(); Object[] os = new Object[3]; int[][][] is = new int[2][3][]; }
+    interface Has { Object O = new Object(); int[] IS = { 1, i, 2 }; List<String> L = new ArrayList<String>(7); }
+    Fields(List<? extends T>[] ls) { this.ls = ls; z = !z; b += 1; c++; s--; i <<= 2; j ^= 3; f *= 2f; d /= 3d; }
+    Object all(Some some) {
+        Object o = new Object() { int i = Fields.i; Object p = Has.O; };
+        switch (some) { case ONE: return Some.last; case TWO: return Held.held.is; default: }
+        Has.L.add(KS); System.out.println(o); System.err.println(K + KJ); Has.IS[i]++; Held.held = new Held();
+        assert z : new Error(); return new Fields<String>(null).new Inner().deep();
+    }
+}""",
     "rest/Field.java": "package rest; public interface Field { Object O = null; }",
     "rest/Number.java": "package rest; public @interface Number { int value() default 7; }",
     "rest/Native.java": "package rest; public abstract class Native { native void n(); abstract void a(); }",
@@ -213,7 +238,7 @@ def tree(folder):
 
 
 def module_classes(home, folder):
-    """The (path, body) pairs of the class files of a JDK's modules, and how they were read."""
+    """The (path, body) pairs of the class files of a JDK's modules."""
     jmods = sorted(glob.glob(os.path.join(home, "jmods", "*.jmod")))
     if jmods:
         entries = []
@@ -224,7 +249,7 @@ def module_classes(home, folder):
                     if name.startswith("classes/") and name.endswith(".class"):
                         path = module + b"/" + name[len("classes/"):].encode()
                         entries.append((path, archive.read(name)))
-        return sorted(entries), "jmods"
+        return sorted(entries)
     image = os.path.join(home, "lib", "modules")
     tool = os.path.join(home, "bin", "jimage")
     if os.path.exists(image) and os.path.exists(tool):
@@ -233,8 +258,8 @@ def module_classes(home, folder):
                        stdout=subprocess.DEVNULL)
         entries = tree(target)
         shutil.rmtree(target)
-        return entries, "jimage"
-    return [], "no modules found"
+        return entries
+    return []
 
 
 def jar_classes(folders):
@@ -292,32 +317,42 @@ def listed(text):
     return types
 
 
-METHOD = rb"([^. ]+)\.([^( ]+)(\([^ ]+)"
-ROW = re.compile(rb"site " + METHOD + rb" (\d+) (virtual|special|static|interface) " + METHOD)
+SITE = re.compile(rb"site ([^. ]+)\.([^( ]+)(\([^ ]+) (\d+) (virtual|special|static|interface|staticfield|new) "
+                  rb"([^. ]+)(?:\.([^ ]+))?")
 
 
-def site_rows(text):
-    """The sites of a text of ./fcg sites: type, method, descriptor, place, kind, and what is called."""
-    rows = []
-    for line in text.split(b"\n")[:-2]:
-        found = ROW.fullmatch(line)
-        if found is None:
-            measure.fail("a line of ./fcg sites was not understood: %r" % line)
-        rows.append(tuple(decode(unescape(part)) for part in found.groups()))
-    if not text.endswith(b"sites %d\n" % len(rows)):
-        measure.fail("the last line of ./fcg sites isn't that of %d sites" % len(rows))
-    return rows
+def site_row(line):
+    """The site of a line of ./fcg sites: type, method, descriptor, place, kind, owner and member of the target.
+
+    The member is a name and a descriptor, which aren't parted in the text; it is empty for `new`.
+    """
+    found = SITE.fullmatch(line)
+    if found is None or (found.group(5) == b"new") != (found.group(7) is None):
+        measure.fail("a line of ./fcg sites was not understood: %r" % line)
+    return tuple(decode(unescape(part or b"")) for part in found.groups())
+
+
+def site_lines(text):
+    """The lines of the sites in a text of ./fcg sites."""
+    lines = text.split(b"\n")
+    if lines[-2:] != [b"sites %d" % (len(lines) - 2), b""]:
+        measure.fail("the last line of ./fcg sites isn't that of %d sites" % (len(lines) - 2))
+    return lines[:-2]
 
 
 class NotUnderstood(Exception):
     """What javap printed has another shape than is read here."""
 
 
-CALL = re.compile(r" +(\d+): invoke(\w+)\b(.*)")
-CALLED = re.compile(r" +#\d+(?:, +\d+)? +// (Interface)?Method (.*)")
+PRINTED = re.compile(r" +(\d+): (invoke\w+|new|getstatic|putstatic)( .*)")
+NAMED = re.compile(r" +#\d+(?:, +\d+)? +// (Method|InterfaceMethod|Field|class) (.*)")
 QUOTED = r'"(?:[^"\\]|\\.)*"|[^".:]+'
-TARGET = re.compile(r"(?:(%s)\.)?(%s):(\(.*)" % (QUOTED, QUOTED))
-KINDS = {"virtual": ("",), "special": ("", "Interface"), "static": ("", "Interface"), "interface": ("Interface",)}
+TARGET = re.compile(r"(?:(%s)\.)?(%s):(.*)" % (QUOTED, QUOTED))
+TYPE = re.compile(QUOTED)
+BOTH = "Method", "InterfaceMethod"
+KINDS = {"invokevirtual": ("virtual", BOTH[:1]), "invokespecial": ("special", BOTH), "invokestatic": ("static", BOTH),
+         "invokeinterface": ("interface", BOTH[1:]), "new": ("new", ("class",)), "getstatic": ("staticfield", ("Field",)),
+         "putstatic": ("staticfield", ("Field",))}
 
 
 def unquoted(text):
@@ -328,35 +363,37 @@ def unquoted(text):
 
 
 def printed_site(line):
-    """The place, kind, owner, name and descriptor in a line of javap, or None where it is no call.
+    """The place, kind, owner and member in a line of javap, or None where it is no site.
 
     The owner is None where javap leaves it out, since it is the class itself.
     """
-    found = CALL.fullmatch(line)
+    found = PRINTED.fullmatch(line)
     if found is None:
         return None
-    place, kind, rest = found.groups()
-    called = CALLED.fullmatch(rest)
-    target = called and TARGET.fullmatch(called.group(2))
-    if target is None or (called.group(1) or "") not in KINDS.get(kind, ()):
-        raise NotUnderstood("a call: " + line)
+    place, word, rest = found.groups()
+    kind, tags = KINDS.get(word, (None, ()))
+    named = NAMED.fullmatch(rest)
+    if named is None or named.group(1) not in tags:
+        raise NotUnderstood("a site: " + line)
+    if kind == "new":
+        if TYPE.fullmatch(named.group(2)) is None:
+            raise NotUnderstood("a type: " + line)
+        return place, kind, unquoted(named.group(2)), ""
+    target = TARGET.fullmatch(named.group(2))
+    if target is None or (target.group(3)[0] == "(") != (kind != "staticfield"):
+        raise NotUnderstood("a target: " + line)
     owner, name, descriptor = target.groups()
-    return place, kind, unquoted(owner), unquoted(name), descriptor
+    return place, kind, unquoted(owner), unquoted(name) + descriptor
 
 
-REFUSED = re.compile(r" +\d+: (?:getstatic|putstatic|invokedynamic|new) +#.*")
-
-
-def is_field(line):
-    """Whether a member of a type in a text of javap is a field."""
-    return "(" not in line and not line.endswith(" {};")
+REFUSED = re.compile(r" +\d+: invokedynamic +#.*")
 
 
 def printed(text):
-    """The types of a text of javap -c -s -p: each its first line, its methods, and why it isn't plain.
+    """The types of a text of javap -c -s -p: each its first line, its fields, its methods, and why it isn't plain.
 
-    A method is its line, its descriptor and its sites. Why it isn't plain are lines of fields and of
-    instructions.
+    A field is its line and its descriptor, a method these and its sites. Why it isn't plain are lines of
+    instructions. Of a module the first line alone is told.
     """
     types = []
     member = None
@@ -366,22 +403,24 @@ def printed(text):
         if not line.startswith(" "):
             if not line.endswith("{"):
                 raise NotUnderstood("a line: " + line)
-            types.append((line, [], []))
+            types.append((line, [], [], []))
         elif line.startswith("    descriptor: "):
             if member is None:
-                raise NotUnderstood("a descriptor without a method: " + line)
-            types[-1][1].append((member, line[len("    descriptor: "):], []))
+                raise NotUnderstood("a descriptor without a member: " + line)
+            descriptor = line[len("    descriptor: "):]
+            if descriptor[:1] == "(":
+                types[-1][2].append((member, descriptor, []))
+            else:
+                types[-1][1].append((member, descriptor))
             member = None
         elif line[2:3] != " ":
             member = line
-            if is_field(line):
-                types[-1][2].append(line)
         elif REFUSED.fullmatch(line):
-            types[-1][2].append(line)
+            types[-1][3].append(line)
         else:
             site = printed_site(line)
             if site is not None:
-                types[-1][1][-1][2].append(site)
+                types[-1][2][-1][2].append(site)
     return types
 
 
@@ -420,9 +459,9 @@ def batches(folder, bodies, size=400):
             os.remove(path)
 
 
-def compare_plain(label, path, bundle, command, alone):
-    """Compares the text of a command of ./fcg with that of plain.py; gives it."""
-    want = plain.answer(bundle, command)
+def compare_plain(label, path, views, command, alone):
+    """Compares the text of a command of ./fcg with that of plain.py for a bundle's views; gives it."""
+    want = 0, b"".join(plain.LINES[command]([view for view in views if not view.module])), b""
     got = want if alone else measure.run_file(path, measure.COMMANDS[command])
     if got == want:
         print("  %s of %s: status %d, %d bytes out, %s"
@@ -449,10 +488,20 @@ def is_member(line, name, method):
     return " %s(" % (name.replace("/", ".") if method == "<init>" else method) in line
 
 
+def compare_fields(label, name, fields, others):
+    """Compares the fields of a type with javap's."""
+    if len(fields) != len(others):
+        measure.fail("%s: %s: plain.py reads %d fields, javap %d" % (label, name, len(fields), len(others)))
+    for field, (line, other) in zip(fields, others):
+        own, descriptor = map(decode, field)
+        if descriptor != other or not line.endswith(" %s;" % own):
+            measure.fail("%s: %s: plain.py reads %s%s, javap %s with %s" % (label, name, own, descriptor, line, other))
+
+
 def compare_type(label, ours, theirs):
     """Compares a type and its methods with javap's; gives the sites of javap."""
     name, members = ours
-    line, others, refused = theirs
+    line, _, others, refused = theirs
     if refused:
         measure.fail("%s: %s isn't plain: %s" % (label, name, refused[0]))
     if not is_heading(line, name):
@@ -463,51 +512,79 @@ def compare_type(label, ours, theirs):
     for (method, descriptor), (shown, other, sites) in zip(members, others):
         if descriptor != other or not is_member(shown, name, method):
             measure.fail("%s: %s: fcg lists %s%s, javap %s with %s" % (label, name, method, descriptor, shown, other))
-        for place, kind, owner, called, kinds in sites:
-            rows.append((name, method, descriptor, place, kind, owner or name, called, kinds))
+        for place, kind, owner, member in sites:
+            rows.append((name, method, descriptor, place, kind, owner or name, member))
     return rows
 
 
-def compare_javap(label, home, folder, bodies, list_text, sites_text):
-    """Compares the types, methods and sites of the texts of ./fcg with those of javap."""
-    ours = listed(list_text)
-    theirs = [kind for files in batches(folder, bodies) for kind in javap_files(home, files)]
-    if len(ours) != len(theirs):
-        measure.fail("%s: fcg lists %d types, javap %d" % (label, len(ours), len(theirs)))
-    views = [plain.read_class(body) for body in bodies]
-    rows = site_rows(sites_text)
-    types = methods = sites = at = 0
-    for own, other, view in zip(ours, theirs, views):
-        end = at + sum(len(method[2]) for method in view[1])
-        if not isinstance(other, str):
-            want = compare_type(label, own, other)
-            for row, site in zip(rows[at:end], want):
-                if row != site:
-                    measure.fail("%s: a site of fcg: %r; of javap: %r" % (label, row, site))
-            if end - at != len(want):
-                measure.fail("%s: %s: fcg has %d sites, javap %d" % (label, own[0], end - at, len(want)))
-            types += 1
-            methods += len(own[1])
-            sites += end - at
-        at = end
-    if at != len(rows):
-        measure.fail("%s: fcg has %d sites, plain.py %d" % (label, len(rows), at))
-    causes = [other for other in theirs if isinstance(other, str)]
+def compare_sites(label, lines, want):
+    """Compares the lines of the sites of a type with its sites of javap."""
+    for line, site in zip(lines, want):
+        row = site_row(line)
+        if row != site:
+            measure.fail("%s: a site of fcg: %r; of javap: %r" % (label, row, site))
+    if len(lines) != len(want):
+        measure.fail("%s: fcg has %d sites, javap %d, after %r" % (label, len(lines), len(want), (want + [None])[0]))
+
+
+def told(views, list_text, sites_text):
+    """What the texts of ./fcg say of each view: the type with its methods, and the lines of its sites; None of a module."""
+    types = iter(listed(list_text))
+    lines = iter(site_lines(sites_text))
+    for view in views:
+        if view.module:
+            yield None
+        else:
+            yield next(types), list(itertools.islice(lines, plain.count_sites(view)))
+    if next(types, None) or next(lines, None):
+        measure.fail("fcg prints types or sites of a module")
+
+
+def compare_one(label, view, ours, theirs, counts):
+    """Compares what ./fcg told of one class file with what javap prints of it."""
+    if view.module:
+        if MODULE.fullmatch(theirs[0]) is None:
+            measure.fail("%s: fcg passes over a module, javap %s" % (label, theirs[0]))
+        counts["modules"] += 1
+        return
+    compare_sites(label, ours[1], compare_type(label, ours[0], theirs))
+    compare_fields(label, ours[0][0], view.fields, theirs[1])
+    counts.update(types=1, fields=len(view.fields), methods=len(view.methods), sites=len(ours[1]))
+
+
+MODULE = re.compile(r"(?:open )?module \S+ \{")
+
+
+def compare_javap(label, home, folder, bodies, views, texts, step):
+    """Compares each `step`-th class file's part of the texts of ./fcg with javap's text."""
+    ours = list(told(views, *texts))[::step]
+    some = bodies[::step]
+    counts = collections.Counter()
+    causes = []
+    rows = zip(views[::step], ours)
+    for files in batches(folder, some):
+        for theirs in javap_files(home, files):
+            view, own = next(rows)
+            if isinstance(theirs, str):
+                causes.append(theirs)
+            else:
+                compare_one(label, view, own, theirs, counts)
     for cause in sorted(set(causes))[:5]:
         print("  not printed by javap: " + cause)
-    if len(causes) * 100 > len(theirs):
-        measure.fail("%s: javap does not print %d of %d class files" % (label, len(causes), len(theirs)))
-    print("  equal to javap -c -s -p of %s: types %d methods %d sites %d; class files that it doesn't print: %d"
-          % (os.path.basename(home), types, methods, sites, len(causes)), flush=True)
+    if len(causes) * 100 > len(some):
+        measure.fail("%s: javap does not print %d of %d class files" % (label, len(causes), len(some)))
+    print("  equal to javap -c -s -p of %s: %s; class files that it doesn't print: %d of %d"
+          % (os.path.basename(home), " ".join("%s %d" % count for count in sorted(counts.items())), len(causes), len(some)),
+          flush=True)
 
 
 def compare_causes(label, home, folder, entries):
-    """Looks whether javap shows why each class file isn't plain: a field or an instruction."""
+    """Looks whether javap shows why each class file isn't plain: an instruction, or there are bootstrap methods."""
     bodies = [body for _, body in entries if major(body) <= GREATEST]
     types = [kind for files in batches(folder, bodies) for kind in javap_files(home, files)]
     shown = 0
     for body, kind in zip(bodies, types):
-        if not isinstance(kind, str) and not kind[2] and b"BootstrapMethods" not in body:
+        if not isinstance(kind, str) and not kind[3] and b"BootstrapMethods" not in body:
             measure.fail("%s: it isn't seen why the class file of %s isn't plain" % (label, kind[0]))
         shown += not isinstance(kind, str)
     print("  of those that aren't plain, javap shows why %d aren't; %d it doesn't print or are newer"
@@ -550,57 +627,71 @@ def time_javap(home, folder, bodies):
           % (os.path.basename(home), len(bodies), took), flush=True)
 
 
-def pick(entries):
-    """The plain ones of the entries, every tenth of the others, and how many these are."""
-    good = []
-    bad = []
-    count = 0
-    for path, body in entries:
-        if plain.read_class(body) is not None:
-            good.append((path, body))
-        else:
-            if count % 10 == 0:
-                bad.append((path, body))
-            count += 1
-    return good, bad, count
+class Others:
+    """The class files of a group that aren't plain: every tenth of them, and how many they are."""
+
+    def __init__(self):
+        self.some = []
+        self.count = 0
+
+    def add(self, path, body):
+        """Counts one, and keeps it where it is a tenth one."""
+        if self.count % 10 == 0:
+            self.some.append((path, body))
+        self.count += 1
 
 
-def pieces(entries, size):
-    """The entries in order, parted so that no bundle has more than `size` bytes but by one entry."""
+def pieces(entries, size, others):
+    """The plain ones of the entries in order, each its path, body and view; those that aren't plain go to `others`.
+
+    They are parted so that no bundle has more than `size` bytes but by one entry.
+    """
     part = []
     total = 0
     for path, body in entries:
+        view = plain.read_class(body)
+        if view is None:
+            others.add(path, body)
+            continue
         if part and total + len(path) + len(body) > size:
             yield part
             part = []
             total = 0
-        part.append((path, body))
+        part.append((path, body, view))
         total += 6 + len(path) + len(body)
-    yield part
+    if part:
+        yield part
 
 
-def group(label, homes, folder, entries, options, causes=True):
-    """Compares and times one group of class files with javap of each home; gives its plain ones.
-
-    With `causes` javap must show why the others are not plain.
-    """
-    good, bad, count = pick(entries)
-    print("%s: %d class files, of which %d are plain" % (label, len(good) + count, len(good)), flush=True)
-    for part in pieces(good, options.size):
-        bundle = plain.pack(part)
-        print("  %d class files in a bundle of %d bytes" % (len(part), len(bundle)), flush=True)
-        path = measure.write(folder, "bundle", bundle)
-        texts = [compare_plain(label, path, bundle, command, options.alone) for command in measure.COMMANDS]
-        bodies = [body for _, body in part]
-        for home in homes:
-            compare_javap(label, home, folder, bodies, *texts)
-        if not options.alone:
-            time_beside_cat(path)
-            time_javap(homes[-1], folder, bodies)
-    if causes:
-        compare_causes(label, homes[0], folder, bad)
+def compare_piece(label, home, folder, part, options, step):
+    """Compares and times one bundle of the plain class files of a group."""
+    bodies = [body for _, body, _ in part]
+    views = [view for _, _, view in part]
+    bundle = plain.pack([(path, body) for path, body, _ in part])
+    print("%s: %d class files in a bundle of %d bytes" % (label, len(part), len(bundle)), flush=True)
+    path = measure.write(folder, "bundle", bundle)
+    texts = [compare_plain(label, path, views, command, options.alone) for command in measure.COMMANDS]
+    compare_javap(label, home, folder, bodies, views, texts, step)
     if not options.alone:
-        compare_refused(label, bad, options.refused, count)
+        time_beside_cat(path)
+        time_javap(home, folder, bodies[::step][:TIMED])
+
+
+def group(label, home, folder, entries, options, causes=True, step=1):
+    """Compares and times one group of class files with javap; gives the paths and bodies of its plain ones.
+
+    With `causes` javap must show why the others are not plain. Each `step`-th class file is compared with javap.
+    """
+    good = []
+    others = Others()
+    for part in pieces(entries, options.size, others):
+        compare_piece(label, home, folder, part, options, step)
+        good += [(path, body) for path, body, _ in part]
+    print("%s: %d class files, of which %d are plain" % (label, len(good) + others.count, len(good)), flush=True)
+    if causes:
+        compare_causes(label, home, folder, others.some)
+    if not options.alone:
+        compare_refused(label, others.some, options.refused, others.count)
     return good
 
 
@@ -632,8 +723,55 @@ def words():
     parser.add_argument("--jars", nargs="*", default=JAR_FOLDERS, metavar="FOLDER",
                         help="the folders whose jars are read (%s); those that aren't there are passed over"
                              % " ".join(JAR_FOLDERS))
+    parser.add_argument("--share", type=int, default=SHARE, metavar="NUMBER",
+                        help="of the jars, and of all JDKs but the oldest, each NUMBERth class file is compared with javap (%d)"
+                             % SHARE)
+    parser.add_argument("--groups", nargs="*", metavar="WORD", help="only the groups with one of these words in their names")
     parser.add_argument("--alone", action="store_true", help="compare plain.py itself with javap, without ./fcg")
     return parser.parse_args()
+
+
+def home_groups(homes, folder):
+    """The groups of each JDK: their names, its home, their class files as a function, and whether the share is enough."""
+    for number, home in enumerate(homes):
+        name = os.path.basename(home)
+        yield ("javac of " + name, home,
+               lambda h=home, n=number: compile_sources(h, os.path.join(folder, "javac%d" % n)), False)
+        yield "modules of " + name, home, lambda h=home: module_classes(h, folder), number > 0
+        yield "newer modules of %s, written as %d" % (name, GREATEST), home, lambda h=home: older(module_classes(h, folder)), True
+
+
+def older(entries):
+    """Those of the entries that are newer than a plain class file may be, with the greatest major version that it may have."""
+    return [(path, body[:6] + GREATEST.to_bytes(2, "big") + body[8:]) for path, body in entries if major(body) > GREATEST]
+
+
+def all_groups(homes, folder, options):
+    """Compares every group that is asked for; gives the plain class files of each javac."""
+    made = []
+    rest = [("random code", homes[0], random_classes, False),
+            ("jars", homes[-1], lambda: jar_classes(options.jars), True)]
+    for label, home, build, share in itertools.chain(home_groups(homes, folder), rest):
+        if options.groups and not any(word in label for word in options.groups):
+            continue
+        step = options.share if share else 1
+        good = group(label, home, folder, build(), options, label != "random code", step)
+        if label.startswith("javac"):
+            made += [(home.encode().replace(b"/", b"_") + b"/" + path, body) for path, body in good]
+    return made
+
+
+def weighty(folder, entries, options):
+    """Compares and times one bundle of entries repeated, but for those of very many sites."""
+    entries = repeat([entry for entry in entries if plain.count_sites(plain.read_class(entry[1])) < MANY], options.size)
+    bundle = plain.pack(entries)
+    print("those of each javac, repeated: %d class files, a bundle of %d bytes" % (len(entries), len(bundle)), flush=True)
+    path = measure.write(folder, "bundle", bundle)
+    found = plain.views(bundle)
+    for command in measure.COMMANDS:
+        compare_plain("repeated", path, found, command, options.alone)
+    if not options.alone:
+        time_beside_cat(path)
 
 
 def main():
@@ -643,37 +781,16 @@ def main():
     if not homes:
         print("no JDK found")
         return 1
-    everything = {}
+    begin = time.monotonic()
     with tempfile.TemporaryDirectory() as folder:
         if not options.alone:
             measure.ready()
             print("start of a process, a bundle without entries:")
             time_beside_cat(measure.write(folder, "empty", plain.pack([])))
-        for number, home in enumerate(homes):
-            name = os.path.basename(home)
-            made = compile_sources(home, os.path.join(folder, "javac%d" % number))
-            for entry in group("javac of " + name, [home], folder, made, options):
-                everything[b"javac%d/" % number + entry[0]] = entry[1]
-            classes, how = module_classes(home, folder)
-            for entry in group("modules of %s (%s)" % (name, how), [home], folder, classes, options):
-                everything[b"jdk%d/" % number + entry[0]] = entry[1]
-            newer = [(path, body[:6] + b"\x00\x41" + body[8:]) for path, body in classes if major(body) > GREATEST]
-            if newer:
-                for entry in group("modules of %s (%s), their major version written as %d" % (name, how, GREATEST),
-                                   [home], folder, newer, options):
-                    everything[b"jdk%d/" % number + entry[0]] = entry[1]
-        group("random code", homes[:1], folder, random_classes(), options, causes=False)
-        for entry in group("jars", homes, folder, jar_classes(options.jars), options):
-            everything[entry[0]] = entry[1]
-        entries = repeat(sorted(everything.items()), options.size)
-        bundle = plain.pack(entries)
-        print("all plain ones, repeated: %d class files, a bundle of %d bytes" % (len(entries), len(bundle)))
-        path = measure.write(folder, "bundle", bundle)
-        for command in measure.COMMANDS:
-            compare_plain("all, repeated", path, bundle, command, options.alone)
-        if not options.alone:
-            time_beside_cat(path)
-    print("no difference")
+        made = all_groups(homes, folder, options)
+        if made:
+            weighty(folder, made, options)
+    print("no difference, %.0f s" % (time.monotonic() - begin))
     return 0
 
 

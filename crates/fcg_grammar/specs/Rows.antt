@@ -14,6 +14,14 @@ rows read (suc n) k s = do
 abbrev pub ended : {X S E : Type 0} → Result (List X × S) E → Result S E
 ended read = read >>= λ x. Ok x.1
 
+-- what each member of a list gives, from the state that the one before it left
+abbrev pub carried : {X Y S E : Type 0} → (X → S → Result (Y × S) E) → List X → S → Result (List Y × S) E
+carried read [] s = Ok ([], s)
+carried read (x ∷ xs) s = do
+  first ← read x s
+  others ← carried read xs first.1
+  Ok (first.0 ∷ others.0, others.1)
+
 -- each member of a list keeps its rule, the first from number k on
 abbrev pub each : {X E : Type 0} → (ℕ → X → Result (Unit {0}) E) → ℕ → List X → Result (Unit {0}) E
 each rule k [] = Ok tt

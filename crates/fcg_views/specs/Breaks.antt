@@ -9,5 +9,6 @@ pub mod Names
 pub mod Instructions
 pub mod Attributes
 pub mod Code
+pub mod Bootstrap
 pub mod Members
 pub mod Class

@@ -85,6 +85,11 @@ pub record Code : Type 0 where
   pub handlers : List (List ℕ)
   pub attributes : List Attribute
 
+-- a row of BootstrapMethods_attribute (4.7.23): the index of a method handle, and those of the static arguments
+pub record BootstrapMethod : Type 0 where
+  pub handle : ℕ
+  pub arguments : List ℕ
+
 -- field_info (4.5), method_info (4.6)
 pub record MemberInfo : Type 0 where
   pub flags : ℕ
@@ -123,6 +128,13 @@ code_info c = concat (
     u2 c.stack ∷ u2 c.locals ∷ u4 (length c.code) ∷ c.code
     ∷ u2 (length c.handlers) ∷ flat_map (λ row. row) c.handlers
     ∷ u2 (length c.attributes) ∷ flat_map attribute c.attributes ∷ [])
+
+abbrev pub bootstrap_method : BootstrapMethod → List ℕ
+bootstrap_method b = concat (u2 b.handle ∷ u2 (length b.arguments) ∷ flat_map u2 b.arguments ∷ [])
+
+-- BootstrapMethods_attribute (4.7.23), by what stands in its content
+abbrev pub bootstrap_info : List BootstrapMethod → List ℕ
+bootstrap_info rows = concat (u2 (length rows) ∷ flat_map bootstrap_method rows ∷ [])
 
 abbrev pub member_info : MemberInfo → List ℕ
 member_info m = concat (

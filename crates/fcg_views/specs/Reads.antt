@@ -4,13 +4,12 @@ use Rattle.std.specs.List.{flat_map, AllByRecursion, AllPairs, AllZip}
 use Rattle.fcg_views.specs.declared.view.View.{View}
 use Rattle.fcg_views.specs.declared.view.Field.{Field}
 use Rattle.fcg_views.specs.declared.view.Method.{Method}
-use Rattle.fcg_views.specs.declared.view.Site.{Site}
 use Rattle.fcg_views.specs.declared.fault.ClassFault.{ClassFault}
-use Rattle.fcg_views.specs.ClassFile.{Bytes, One, Two, shape_of, is_one_of, Constant, Utf8, Plain, Named, Pair, Handle, tag_of, slots, wants, Attribute, Code, code_info, MemberInfo, ClassFile, spelling}
+use Rattle.fcg_views.specs.ClassFile.{Bytes, One, Two, shape_of, is_one_of, Constant, Utf8, Plain, Named, Pair, Handle, tag_of, slots, wants, Attribute, Code, code_info, BootstrapMethod, bootstrap_info, MemberInfo, ClassFile, spelling}
 use Rattle.fcg_views.specs.Constants.{constant_at, NamesUtf8, NamesClass}
 use Rattle.fcg_views.specs.Descriptor.{IsDescriptor, IsFieldDescriptor}
 use Rattle.fcg_views.specs.Instructions.{Instruction, IsCode}
-use Rattle.fcg_views.specs.Sites.{AreSites}
+use Rattle.fcg_views.specs.Sites.{Found, nothing, AreFound, AreSites}
 use Rattle.fcg_views.specs.Valid.{site_count}
 use Rattle.fcg_views.specs.Breaks.Class.{class_of}
 
@@ -53,11 +52,10 @@ abbrev pub NamesSuper : List Constant → ℕ → Option (List ℕ) → Type 0
 NamesSuper pool index None = index ≡ 0
 NamesSuper pool index (Some name) = (0 < index) × NamesType pool index name
 
--- an attribute of a name; BootstrapMethods isn't read yet
+-- an attribute of a name
 pub record IsNamed (pool : List Constant) (a : Attribute) (name : List ℕ) : Type 0 where
   pub index : a.name < 2 ^ 16
   pub named : NamesUtf8 pool a.name name
-  pub no_methods : name ≢ codes "BootstrapMethods"
   pub fits : length a.content < 2 ^ 32
 
 -- an attribute that is passed over by its length
@@ -68,33 +66,53 @@ pub record ArePassed (pool : List Constant) (attributes : List Attribute) : Type
   pub few : length attributes < 2 ^ 16
   pub each : AllByRecursion (IsPassed pool) attributes
 
--- the code of a method (4.7.3), with its sites
-pub record IsCodeOf (pool : List Constant) (c : Code) (sites : List Site) : Type 0 where
+-- an attribute of another name, which is passed over
+abbrev pub IsOther : List Constant → List ℕ → Attribute → Type 0
+IsOther pool word a = (name : List ℕ) × IsNamed pool a name × (name ≢ word)
+
+-- Attributes of which one at most has a name: what it says; and else, what is said without it.
+abbrev pub HasOne : {X : Type 0} → List Constant → List ℕ → (List ℕ → X → Type 0) → X → List Attribute → X → Type 0
+HasOne pool word Says without [] x = x ≡ without
+HasOne pool word Says without (a ∷ more) x =
+    (IsOther pool word a × HasOne pool word Says without more x)
+    ⊎ (IsNamed pool a word × Says a.content x × AllByRecursion (IsOther pool word) more)
+
+-- the code of a method (4.7.3), with what its instructions have
+pub record IsCodeOf (pool : List Constant) (c : Code) (x : Found) : Type 0 where
   pub stack : c.stack < 2 ^ 16
   pub locals : c.locals < 2 ^ 16
   pub some : 1 ≤ length c.code
   pub short : length c.code ≤ 65535
   pub instructions : List Instruction
   pub code : IsCode c.code instructions
-  pub sites_are : AreSites pool 0 instructions sites
+  pub found : AreFound pool 0 instructions x
   pub few_handlers : length c.handlers < 2 ^ 16
   pub handlers : AllByRecursion (λ row. length row ≡ 8) c.handlers
   pub attributes : ArePassed pool c.attributes
 
-pub record IsCodeAttribute (pool : List Constant) (a : Attribute) (sites : List Site) : Type 0 where
-  pub named : IsNamed pool a (codes "Code")
-  pub code : Code
-  pub content : a.content ≡ code_info code
-  pub code_is : IsCodeOf pool code sites
+abbrev pub SaysCode : List Constant → List ℕ → Found → Type 0
+SaysCode pool content x = (code : Code) × (content ≡ code_info code) × IsCodeOf pool code x
 
--- an attribute of a method that is passed over
-abbrev pub IsOther : List Constant → Attribute → Type 0
-IsOther pool a = (name : List ℕ) × IsNamed pool a name × (name ≢ codes "Code")
+-- a method has one Code at most
+pub record HasCode (pool : List Constant) (attributes : List Attribute) (x : Found) : Type 0 where
+  pub few : length attributes < 2 ^ 16
+  pub code : HasOne pool (codes "Code") (SaysCode pool) nothing attributes x
 
--- The sites of a method are those of its Code, of which it has one at most.
-abbrev pub HasSites : List Constant → List Attribute → List Site → Type 0
-HasSites pool [] sites = sites ≡ []
-HasSites pool (a ∷ more) sites = (IsOther pool a × HasSites pool more sites) ⊎ (IsCodeAttribute pool a sites × AllByRecursion (IsOther pool) more)
+-- a row of BootstrapMethods (4.7.23); what its indexes name matters where a call uses it
+pub record IsRow (b : BootstrapMethod) : Type 0 where
+  pub handle : b.handle < 2 ^ 16
+  pub few : length b.arguments < 2 ^ 16
+  pub arguments : AllByRecursion (λ i. i < 2 ^ 16) b.arguments
+
+pub record SaysRows (content : List ℕ) (rows : List BootstrapMethod) : Type 0 where
+  pub spelled : content ≡ bootstrap_info rows
+  pub few : length rows < 2 ^ 16
+  pub each : AllByRecursion IsRow rows
+
+-- a class has one BootstrapMethods at most
+pub record HasRows (pool : List Constant) (attributes : List Attribute) (rows : List BootstrapMethod) : Type 0 where
+  pub few : length attributes < 2 ^ 16
+  pub rows_are : HasOne pool (codes "BootstrapMethods") SaysRows [] attributes rows
 
 -- what a field or a method declares: a name of a byte or more, and a descriptor
 pub record IsDeclared (pool : List Constant) (IsTyped : List ℕ → Type 0) (m : MemberInfo) (flags : ℕ) (name desc : List ℕ) : Type 0 where
@@ -111,10 +129,11 @@ pub record IsFieldOf (pool : List Constant) (m : MemberInfo) (v : Field) : Type 
   pub declared : IsDeclared pool IsFieldDescriptor m v.flags v.name v.desc
   pub attributes : ArePassed pool m.attributes
 
-pub record IsMethodOf (pool : List Constant) (m : MemberInfo) (v : Method) : Type 0 where
+pub record IsMethodOf (pool : List Constant) (rows : List BootstrapMethod) (m : MemberInfo) (v : Method) : Type 0 where
   pub declared : IsDeclared pool IsDescriptor m v.flags v.name v.desc
-  pub few_attributes : length m.attributes < 2 ^ 16
-  pub sites : HasSites pool m.attributes v.sites
+  pub found : Found
+  pub code : HasCode pool m.attributes found
+  pub sites : AreSites pool rows found v.sites
 
 -- what a class file says, of a type or of a module
 pub record IsViewOf (c : ClassFile) (v : View) : Type 0 where
@@ -131,11 +150,12 @@ pub record IsViewOf (c : ClassFile) (v : View) : Type 0 where
   pub few_fields : length c.fields < 2 ^ 16
   pub fields : AllZip (IsFieldOf c.pool) c.fields v.fields
   pub few_methods : length c.methods < 2 ^ 16
-  pub methods : AllZip (IsMethodOf c.pool) c.methods v.methods
+  pub rows : List BootstrapMethod
+  pub methods : AllZip (IsMethodOf c.pool rows) c.methods v.methods
   -- no two methods have one name and one descriptor (4.6)
   pub distinct : AllPairs (λ m n. m.name ≡ n.name → m.desc ≢ n.desc) v.methods
   pub few_sites : site_count v.methods ≤ 1000000
-  pub attributes : ArePassed c.pool c.attributes
+  pub attributes : HasRows c.pool c.attributes rows
 
 -- A module has the flag 8000 (4.1), which is the highest of the two bytes, and no view.
 abbrev pub IsShown : View → Option View → Type 0

@@ -1,5 +1,5 @@
 -- Which views are valid: those that a class file could have.
-use Rattle.std.specs.Prelude.{ℕ, ◌-◌, ◌≤◌, List, length, sum_by, All, nat_le, Option, Some, None, if◌then◌else◌}
+use Rattle.std.specs.Prelude.{ℕ, ◌+◌, ◌*◌, ◌-◌, ◌≤◌, List, length, sum_by, All, nat_le, Option, Some, None, if◌then◌else◌}
 use Rattle.std.specs.List.{IsDistinct}
 use Rattle.fcg_views.specs.declared.view.View.{View}
 use Rattle.fcg_views.specs.declared.view.Field.{Field}
@@ -36,9 +36,28 @@ site_count methods = sum_by (λ m. length m.sites) methods
 abbrev pub sites_of_all : List View → ℕ
 sites_of_all views = sum_by (λ v. site_count v.methods) views
 
+abbrev pub count_of_option : {X : Type 0} → Option X → ℕ
+count_of_option None = 0
+count_of_option (Some x) = 1
+
 -- what is left of a number when another is taken from it
 abbrev pub left_of : ℕ → ℕ → Option ℕ
 left_of room n = if nat_le n room then Some (room - n) else None
+
+-- the names of a method, of its sites among them, each as often as it stands
+abbrev pub method_names : Method → ℕ
+method_names m = 2 + 3 * length m.sites
+
+abbrev pub own_names : View → ℕ
+own_names v = 1 + (count_of_option v.superclass + (length v.interfaces + 2 * length v.fields))
+
+-- all names of a view
+abbrev pub view_names : View → ℕ
+view_names v = own_names v + sum_by method_names v.methods
+
+-- all names of views, each as often as it stands
+abbrev pub name_count : List View → ℕ
+name_count views = sum_by view_names views
 
 pub record IsValid (v : View) : Type 0 where
   pub name : IsShort v.name

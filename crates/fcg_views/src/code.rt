@@ -1,4 +1,4 @@
-//! Why bytes are no code of a method.
+//! The code of a method: its calls of bootstrap methods, and why bytes are none.
 
 /// A rule of a method's code that an instruction breaks (JVMS 6), told at the place of its opcode.
 #[derive(Clone, Copy, Debug, PartialEq, Eq)]
@@ -11,4 +11,13 @@ pub enum CodeRule {
     BadSwitch,
     /// A `wide` stands before an opcode that can't be made wide.
     BadWide,
+}
+
+/// An `invokedynamic` of a method's code (JVMS 6.5).
+#[derive(Clone, Copy, Debug, PartialEq, Eq)]
+pub struct DynamicCall {
+    /// The place of its opcode in the code, in bytes.
+    pub pc: u16,
+    /// The number of its bootstrap method, from 0: a row of BootstrapMethods (JVMS 4.7.23).
+    pub bootstrap: u16,
 }

@@ -27,7 +27,7 @@ pub struct PoolFault {
     /// The place of the item that breaks the rule, in bytes from the file's start; of a broken index, that of its
     /// constant's tag. A place that is too large is given as the last value.
     pub offset: u32,
-    /// The index of the constant that was read or checked, or 0.
+    /// The index of the constant that was read or checked; 0 of an item that is cut.
     pub index: u16,
     pub rule: PoolRule,
 }
@@ -39,7 +39,8 @@ pub enum ClassRule {
     Magic,
     /// The major version is below 45 or above 65.
     Version,
-    /// A number or a string of bytes passes the file's end.
+    /// A number or a string of bytes passes the end of the file, or of the attribute Code or BootstrapMethods that it
+    /// stands in.
     Cut,
     /// A tag that no constant has.
     BadTag,
@@ -67,12 +68,12 @@ pub enum ClassRule {
     BadSwitch,
     /// A `wide` stands before an opcode that can't be made wide.
     BadWide,
-    /// Bytes stand after the end of a Code attribute's content, or of the class file.
+    /// The class has a second attribute BootstrapMethods, or an `invokedynamic` whose bootstrap method isn't there.
+    Bootstrap,
+    /// Bytes stand after what an attribute Code or BootstrapMethods holds, or after the class file.
     Trailing,
     /// The class has more than 1,000,000 sites.
     ManySites,
-    /// What isn't read yet: an attribute BootstrapMethods, and the instruction `invokedynamic`.
-    NotBuilt,
 }
 
 /// The first rule that is broken, in the order in which a class file is read.

@@ -85,3 +85,6 @@ pub type Sites = Items<Site>;
 
 /// Views, in the order of the bundle.
 pub type Views = Items<View>;
+
+/// Paths of files, as texts whose parts stand between slashes.
+pub type Paths = Items<String>;

@@ -16,13 +16,13 @@ mod tests;
 mod valid;
 mod view;
 
-pub use code::CodeRule;
+pub use code::{CodeRule, DynamicCall};
 pub use descriptor::{DescFault, DescSpan, read_descriptor, read_field_descriptor};
 pub use escaping::{Place, escape, push_escaped};
 pub use fault::{
     ClassFault, ClassRule, PoolFault, PoolRule, at_index, at_opcode, fault_at, pool_fault_at,
 };
-pub use items::{Bytes, Fields, Items, Methods, Names, Sites, Views};
+pub use items::{Bytes, Fields, Items, Methods, Names, Paths, Sites, Views};
 pub use memory::NoMemory;
 pub use name::Name;
 pub use valid::{is_valid, sites_left};

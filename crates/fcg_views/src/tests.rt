@@ -181,5 +181,7 @@ fn tells_valid_views(rt: HostRuntime) -> Result<(), Fail> {
     assert!(rt; is_valid(&apart));
     let alike = view_of(rt.alloc(), &[("f", "()V"), ("g", "()V"), ("f", "()V")])?;
     assert!(rt; !is_valid(&alike));
+    let views = Items::from(vec![in rt.alloc(); apart, alike]?);
+    assert!(rt; views.fits());
     Ok(())
 }

@@ -1,9 +1,10 @@
 //! Which views are valid.
-ghost use Rattle.std.specs.Prelude.{◌≡◌, ◌↔◌, ◌≤◌, IsTrue, All, false};
+ghost use Rattle.std.specs.Prelude.{◌≡◌, ◌↔◌, ◌≤◌, ◌<◌, ◌^◌, IsTrue, All, false, sum_by};
 ghost use Rattle.std.specs.List.{IsDistinct};
 ghost use Rattle.fcg_views.specs.Breaks.Words.{is_alike};
-ghost use Rattle.fcg_views.specs.Valid.{IsShort, IsShortOrNone, IsTable, HasShortNames, IsValidField, IsValidMethod, IsValid, site_count, left_of};
+ghost use Rattle.fcg_views.specs.Valid.{IsShort, IsShortOrNone, IsTable, HasShortNames, IsValidField, IsValidMethod, IsValid, site_count, left_of, method_names, own_names, view_names, name_count};
 
+use crate::items::Views;
 use crate::name::Name;
 use crate::view::{Field, Method, Site, View};
 
@@ -110,6 +111,68 @@ pub fn sites_left(room: usize, methods: &[Method]) -> Option<usize>
         }
     }
     Some(left)
+}
+
+// What is left of so many names when those of a method and of its sites are taken from them.
+fn names_left_by_method(room: u128, method: &Method) -> Option<u128>
+    ensures { result ≡ left_of room (method_names method.now) }
+{
+    room.checked_sub(2 + 3 * method.sites.as_slice().len() as u128)
+}
+
+fn names_left_by_methods(room: u128, methods: &[Method]) -> Option<u128>
+    ensures { result ≡ left_of room (sum_by method_names methods.now) }
+{
+    let mut left = room;
+    for method in methods {
+        match names_left_by_method(left, method) {
+            Some(less) => left = less,
+            None => return None,
+        }
+    }
+    Some(left)
+}
+
+// How many names a view has beside those of its methods.
+fn own_names(view: &View) -> u128
+    ensures { result ≡ own_names view.now }
+{
+    let superclass = if view.superclass.is_some() { 1 } else { 0 };
+    let interfaces = view.interfaces.as_slice().len() as u128;
+    let fields = view.fields.as_slice().len() as u128;
+    1 + superclass + interfaces + 2 * fields
+}
+
+fn names_left_by_view(room: u128, view: &View) -> Option<u128>
+    ensures { result ≡ left_of room (view_names view.now) }
+{
+    match room.checked_sub(own_names(view)) {
+        Some(left) => names_left_by_methods(left, view.methods.as_slice()),
+        None => None,
+    }
+}
+
+fn names_left(room: u128, views: &[View]) -> Option<u128>
+    ensures { result ≡ left_of room (name_count views.now) }
+{
+    let mut left = room;
+    for view in views {
+        match names_left_by_view(left, view) {
+            Some(less) => left = less,
+            None => return None,
+        }
+    }
+    Some(left)
+}
+
+impl Views {
+    /// Whether the views have fewer than 2^32 names: those of types, superclasses and interfaces, and of fields, methods
+    /// and sites with their descriptors, each as often as it stands. Takes no memory, and one pass over the methods.
+    pub fn fits(&self) -> bool
+        ensures { IsTrue result ↔ (name_count self.now < 2 ^ 32) }
+    {
+        names_left(u128::from(u32::MAX), self.as_slice()).is_some()
+    }
 }
 
 fn has_few_sites(methods: &[Method]) -> bool

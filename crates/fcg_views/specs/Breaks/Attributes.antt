@@ -1,13 +1,13 @@
 -- Attributes (JVMS 4.7).
-use Rattle.std.specs.Prelude.{ℕ, ◌+◌, List, take, Result, Ok}
+use Rattle.std.specs.Prelude.{ℕ, ◌+◌, List, take, is_none, Option, Some, None, Result, Ok, if◌then◌else◌}
 use Rattle.fcg_grammar.specs.Reading.{◌>>=◌, unless_broken}
 use Rattle.fcg_grammar.specs.Rows.{rows, ended}
 use Rattle.fcg_views.specs.declared.fault.ClassFault.{ClassFault}
-use Rattle.fcg_views.specs.declared.fault.ClassRule.TheVariants.{NotBuilt}
+use Rattle.fcg_views.specs.declared.fault.ClassRule.{ClassRule}
 use Rattle.fcg_views.specs.Breaks.Fault.{fault, at_place}
 use Rattle.fcg_views.specs.Breaks.Number.{u2_at, u4_at, part_at}
 use Rattle.fcg_views.specs.Breaks.Pool.{Entries, text_of}
-use Rattle.fcg_views.specs.Breaks.Words.{is_known}
+use Rattle.fcg_views.specs.Breaks.Words.{is_same}
 
 -- the same pool where other bytes are read
 abbrev pub over : List ℕ → Entries → Entries
@@ -23,13 +23,6 @@ text_at pool at = do
   index ← u2_at pool.bytes at 0
   at_place at index (text_of pool index)
 
--- the name of the attribute that stands at a place
-unfoldable pub named_at : Entries → ℕ → Result (List ℕ) ClassFault
-named_at pool at = do
-  name ← text_at pool at
-  known ← unless_broken (is_known name) (fault at 0 NotBuilt)
-  Ok name
-
 -- the place after the content of an attribute, whose length stands behind the name
 unfoldable pub content_at : Entries → ℕ → Result ℕ ClassFault
 content_at pool at = do
@@ -40,7 +33,7 @@ content_at pool at = do
 -- an attribute that is passed over by its length
 unfoldable pub attribute_at : Entries → ℕ → ℕ → Result (Unit {0} × ℕ) ClassFault
 attribute_at pool k at = do
-  name ← named_at pool at
+  name ← text_at pool at
   after ← content_at pool at
   Ok (tt, after)
 
@@ -49,3 +42,33 @@ unfoldable pub attributes_at : Entries → ℕ → Result ℕ ClassFault
 attributes_at pool at = do
   count ← u2_at pool.bytes at 0
   ended (rows (attribute_at pool) count 0 (at + 2))
+
+-- ==== attributes of which one of a name is read, and the others are passed over
+
+-- where the next attribute stands; and of the one that was read its place, and what it says
+pub record OneBegun (X : Type 0) : Type 0 where
+  pub at : ℕ
+  pub read : Option (ℕ × X)
+
+-- the name, the rule that a second one breaks, and what stands from a place up to the end of the content
+module _ {X : Type 0} (word : List ℕ) (twice : ClassRule) (said_at : Entries → ℕ → Result X ClassFault) where
+  unfoldable pub one_read_at : Entries → OneBegun X → Result (Unit {0} × OneBegun X) ClassFault
+  one_read_at pool begun = do
+    once ← unless_broken (is_none begun.read) (fault begun.at 0 twice)
+    after ← content_at pool begun.at
+    x ← said_at (up_to after pool) (begun.at + 6)
+    Ok (tt, record { at = after; read = Some (begun.at, x) })
+
+  abbrev pub other_at : Entries → OneBegun X → Result (Unit {0} × OneBegun X) ClassFault
+  other_at pool begun = content_at pool begun.at >>= λ after. Ok (tt, record { at = after; read = begun.read })
+
+  unfoldable pub one_at : Entries → ℕ → OneBegun X → Result (Unit {0} × OneBegun X) ClassFault
+  one_at pool k begun = do
+    name ← text_at pool begun.at
+    if is_same name word then one_read_at pool begun else other_at pool begun
+
+  -- the attributes whose count stands at a place
+  unfoldable pub ones_at : Entries → ℕ → Result (OneBegun X) ClassFault
+  ones_at pool at = do
+    n ← u2_at pool.bytes at 0
+    ended (rows (one_at pool) n 0 (record { at = at + 2; read = None }))

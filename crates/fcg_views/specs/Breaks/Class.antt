@@ -1,18 +1,20 @@
 -- The class file (JVMS 4.1).
-use Rattle.std.specs.Prelude.{ℕ, ◌+◌, List, length, ◌&&◌, nat_le, nat_lt, Option, Some, None, Result, Ok, ◌==◌, if◌then◌else◌}
+use Rattle.std.specs.Prelude.{ℕ, ◌+◌, List, length, ◌&&◌, [], nat_le, nat_lt, codes, Option, Some, None, Result, Ok, ◌==◌, if◌then◌else◌}
 use Rattle.fcg_grammar.specs.Reading.{◌>>=◌, unless_broken}
 use Rattle.fcg_grammar.specs.Rows.{rows}
 use Rattle.fcg_views.specs.declared.view.View.{View}
 use Rattle.fcg_views.specs.declared.view.Field.{Field}
 use Rattle.fcg_views.specs.declared.view.Method.{Method}
 use Rattle.fcg_views.specs.declared.fault.ClassFault.{ClassFault}
-use Rattle.fcg_views.specs.declared.fault.ClassRule.TheVariants.{Magic, Version, Trailing}
+use Rattle.fcg_views.specs.declared.fault.ClassRule.TheVariants.{Magic, Version, Bootstrap, Trailing}
+use Rattle.fcg_views.specs.ClassFile.{BootstrapMethod}
 use Rattle.fcg_views.specs.Breaks.Fault.{fault, in_pool}
 use Rattle.fcg_views.specs.Breaks.Number.{u2_at, u4_at}
 use Rattle.fcg_views.specs.Breaks.Pool.{Entries, pool_at}
 use Rattle.fcg_views.specs.Breaks.Names.{type_of}
-use Rattle.fcg_views.specs.Breaks.Attributes.{attributes_at}
-use Rattle.fcg_views.specs.Breaks.Members.{fields_at, methods_at}
+use Rattle.fcg_views.specs.Breaks.Attributes.{ones_at}
+use Rattle.fcg_views.specs.Breaks.Bootstrap.{rows_at}
+use Rattle.fcg_views.specs.Breaks.Members.{fields_at, methods_at, all_finished}
 
 -- cafebabe, and a major version from 45 to 65 with any minor
 unfoldable pub header_kept : List ℕ → Result (Unit {0}) ClassFault
@@ -42,14 +44,20 @@ interfaces_at pool at = do
   count ← u2_at pool.bytes at 0
   rows (interface_at pool) count 0 (at + 2)
 
--- the fields, the methods, the class's attributes, and the end of the file
+-- without an attribute BootstrapMethods there is no bootstrap method
+abbrev pub rows_or_none : Option (ℕ × List BootstrapMethod) → List BootstrapMethod
+rows_or_none None = []
+rows_or_none (Some (at, rows)) = rows
+
+-- the fields, the methods, the class's attributes, then the calls of the methods, and the end of the file
 unfoldable pub members_at : Entries → ℕ → Result (List Field × List Method) ClassFault
 members_at pool at = do
   fields ← fields_at pool at
   methods ← methods_at pool fields.1
-  after ← attributes_at pool methods.1
-  ended ← unless_broken (length pool.bytes == after) (fault after 0 Trailing)
-  Ok (fields.0, methods.0)
+  attributes ← ones_at (codes "BootstrapMethods") Bootstrap rows_at pool methods.1
+  whole ← all_finished pool (rows_or_none attributes.read) methods.0
+  ended ← unless_broken (length pool.bytes == attributes.at) (fault attributes.at 0 Trailing)
+  Ok (fields.0, whole)
 
 -- what stands after the pool
 unfoldable pub body_at : Entries → ℕ → Result View ClassFault

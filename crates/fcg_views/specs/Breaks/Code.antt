@@ -1,18 +1,19 @@
--- The code of a method (JVMS 4.7.3), with its sites. All places are counted from the file's start but those of the
--- instructions, which are counted from the code's.
-use Rattle.std.specs.Prelude.{ℕ, zero, suc, ◌+◌, List, [], ◌∷◌, ◌++◌, length, slice_index, Bool, false, not, ◌&&◌, nat_le, nat_lt, Option, Some, None, Result, Ok, Err, ◌==◌, if◌then◌else◌}
+-- The code of a method (JVMS 4.7.3), with its sites and its calls of bootstrap methods. All places are counted from the
+-- file's start but those of the instructions, which are counted from the code's.
+use Rattle.std.specs.Prelude.{ℕ, zero, suc, ◌+◌, List, [], ◌∷◌, length, slice_index, Bool, true, false, ◌&&◌, nat_le, nat_lt, Option, Some, None, Result, Ok, Err, ◌==◌, if◌then◌else◌}
 use Rattle.fcg_grammar.specs.Reading.{◌>>=◌, unless_broken}
 use Rattle.fcg_grammar.specs.Rows.{rows, ended}
+use Rattle.fcg_views.specs.declared.code.DynamicCall.{DynamicCall}
 use Rattle.fcg_views.specs.declared.view.Ref.{Ref}
 use Rattle.fcg_views.specs.declared.view.Site.{Site}
 use Rattle.fcg_views.specs.declared.fault.ClassFault.{ClassFault}
-use Rattle.fcg_views.specs.declared.fault.ClassRule.TheVariants.{WrongKind, EmptyName, Descriptor, CodeLength, CodeCut, ManySites, Trailing, NotBuilt}
+use Rattle.fcg_views.specs.declared.fault.ClassRule.TheVariants.{WrongKind, EmptyName, Descriptor, CodeLength, CodeCut, ManySites, Trailing}
 use Rattle.fcg_views.specs.ClassFile.{is_one_of}
 use Rattle.fcg_views.specs.DescSteps.{is_descriptor, is_field_descriptor}
-use Rattle.fcg_views.specs.Sites.{Named, Method, Field, Class, SiteForm, site_form, is_unread}
+use Rattle.fcg_views.specs.Sites.{Target, ToMethod, ToField, ToType, SiteForm, site_form, is_dynamic, Found, nothing, both}
 use Rattle.fcg_views.specs.Breaks.Fault.{fault, at_place, at_opcode}
 use Rattle.fcg_views.specs.Breaks.Number.{u2_at, u4_at, part_at}
-use Rattle.fcg_views.specs.Breaks.Pool.{Entries, reference_of}
+use Rattle.fcg_views.specs.Breaks.Pool.{Entries, reference_of, dynamic_of}
 use Rattle.fcg_views.specs.Breaks.Names.{type_of}
 use Rattle.fcg_views.specs.Breaks.Instructions.{next_at, operand_at}
 use Rattle.fcg_views.specs.Breaks.Attributes.{attributes_at}
@@ -29,46 +30,54 @@ member_of pool is_typed tags at index = do
   Ok (record { owner = r.owner; owner_is_interface_ref = r.tag == 11; name = r.name; desc = r.desc })
 
 -- a type alone
-abbrev pub class_ref : List ℕ → Ref
-class_ref name = record { owner = name; owner_is_interface_ref = false; name = []; desc = [] }
+abbrev pub type_ref : List ℕ → Ref
+type_ref name = record { owner = name; owner_is_interface_ref = false; name = []; desc = [] }
 
 -- what a site names by an index
-abbrev pub target_of : Entries → Named → ℕ → ℕ → Result Ref ClassFault
-target_of pool (Method tags) at index = member_of pool is_descriptor tags at index
-target_of pool Field at index = member_of pool is_field_descriptor (9 ∷ []) at index
-target_of pool Class at index = type_of pool at index >>= λ name. Ok (class_ref name)
+abbrev pub target_of : Entries → Target → ℕ → ℕ → Result Ref ClassFault
+target_of pool (ToMethod tags) at index = member_of pool is_descriptor tags at index
+target_of pool ToField at index = member_of pool is_field_descriptor (9 ∷ []) at index
+target_of pool ToType at index = type_of pool at index >>= λ name. Ok (type_ref name)
+
+-- the site of a form that has an index at a pc, where so many sites of the class are before it; a fault is at a place
+unfoldable pub site_of : Entries → SiteForm → ℕ → ℕ → ℕ → ℕ → Result Site ClassFault
+site_of pool form at pc index count = do
+  target ← target_of pool form.target at index
+  counted ← unless_broken (nat_lt count 1000000) (fault at 0 ManySites)
+  Ok (record { pc = pc; kind = form.kind; target = target })
 
 -- The code that begins at a place of the file. So many sites of the class are before the ones that are read.
 module _ (pool : Entries) (begin : ℕ) (code : List ℕ) where
-  unfoldable pub site_at : SiteForm → ℕ → ℕ → Result Site ClassFault
-  site_at form pc count = do
-    target ← target_of pool form.named (begin + pc) (operand_at code pc)
-    counted ← unless_broken (nat_lt count 1000000) (fault (begin + pc) 0 ManySites)
-    Ok (record { pc = pc; kind = form.kind; target = target })
-
   abbrev pub sites_by : Option SiteForm → ℕ → ℕ → Result (List Site) ClassFault
   sites_by None pc count = Ok []
-  sites_by (Some form) pc count = site_at form pc count >>= λ s. Ok (s ∷ [])
+  sites_by (Some form) pc count = site_of pool form (begin + pc) pc (operand_at code pc) count >>= λ s. Ok (s ∷ [])
 
-  -- the sites of the instruction whose opcode is at a place of the code
-  unfoldable pub sites_at : ℕ → ℕ → Result (List Site) ClassFault
-  sites_at pc count = do
-    known ← unless_broken (not (is_unread (slice_index code pc))) (fault (begin + pc) 0 NotBuilt)
-    sites_by (site_form (slice_index code pc)) pc count
+  abbrev pub calls_by : Bool → ℕ → Result (List DynamicCall) ClassFault
+  calls_by false pc = Ok []
+  calls_by true pc = do
+    n ← at_place (begin + pc) (operand_at code pc) (dynamic_of pool (operand_at code pc))
+    Ok (record { pc = pc; bootstrap = n } ∷ [])
 
-  -- The sites of the instructions from a place on, up to the code's end. The first number bounds the instructions: it
+  -- what the instruction whose opcode is at a place of the code has
+  unfoldable pub found_at : ℕ → ℕ → Result Found ClassFault
+  found_at pc count = do
+    sites ← sites_by (site_form (slice_index code pc)) pc count
+    calls ← calls_by (is_dynamic (slice_index code pc)) pc
+    Ok (record { sites = sites; calls = calls })
+
+  -- What the instructions have from a place on, up to the code's end. The first number bounds the instructions: it
   -- never runs out where it is above the number of the bytes that are left.
-  unfoldable pub sites_from : ℕ → ℕ → ℕ → Result (List Site) ClassFault
-  sites_from zero pc count = Err (fault (begin + pc) 0 CodeCut)
-  sites_from (suc fuel) pc count =
-      if length code == pc then Ok [] else (do
+  unfoldable pub found_from : ℕ → ℕ → ℕ → Result Found ClassFault
+  found_from zero pc count = Err (fault (begin + pc) 0 CodeCut)
+  found_from (suc fuel) pc count =
+      if length code == pc then Ok nothing else (do
         next ← at_opcode (begin + pc) (next_at code pc)
-        here ← sites_at pc count
-        others ← sites_from fuel next (count + length here)
-        Ok (here ++ others))
+        here ← found_at pc count
+        others ← found_from fuel next (count + length here.sites)
+        Ok (both here others))
 
-  abbrev pub sites_of : ℕ → Result (List Site) ClassFault
-  sites_of count = sites_from (1 + length code) 0 count
+  abbrev pub found_of : ℕ → Result Found ClassFault
+  found_of count = found_from (1 + length code) 0 count
 
 -- a row of the exception table
 unfoldable pub handler_at : List ℕ → ℕ → ℕ → Result (Unit {0} × ℕ) ClassFault
@@ -80,16 +89,16 @@ handlers_at bytes at = do
   count ← u2_at bytes at 0
   ended (rows (handler_at bytes) count 0 (at + 2))
 
--- what stands from a place up to the end of the content: the sites of the code
-unfoldable pub code_at : Entries → ℕ → ℕ → Result (List Site) ClassFault
-code_at pool at count = do
+-- what stands from a place up to the end of the content, where so many sites of the class are before it
+unfoldable pub code_at : ℕ → Entries → ℕ → Result Found ClassFault
+code_at count pool at = do
   stack ← u2_at pool.bytes at 0
   locals ← u2_at pool.bytes (at + 2) 0
   n ← u4_at pool.bytes (at + 4) 0
   sized ← unless_broken (nat_le 1 n && nat_le n 65535) (fault (at + 4) 0 CodeLength)
   code ← part_at pool.bytes (at + 8) n 0
-  sites ← sites_of pool (at + 8) code count
+  found ← found_of pool (at + 8) code count
   after_handlers ← handlers_at pool.bytes (at + 8 + n)
   after ← attributes_at pool after_handlers
   ended ← unless_broken (length pool.bytes == after) (fault after 0 Trailing)
-  Ok sites
+  Ok found

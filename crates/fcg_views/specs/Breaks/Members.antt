@@ -1,21 +1,25 @@
 -- Fields and methods (JVMS 4.5, 4.6), with the sites of the methods' code.
-use Rattle.std.specs.Prelude.{ℕ, ◌+◌, List, [], ◌∷◌, ◌++◌, length, Bool, not, nat_lt, is_none, Option, Some, None, Result, Ok, if◌then◌else◌}
+use Rattle.std.specs.Prelude.{ℕ, ◌+◌, List, [], ◌∷◌, ◌++◌, length, Bool, not, nat_lt, sum_by, codes, Option, Some, None, Result, Ok}
 use Rattle.std.specs.List.{list_any}
 use Rattle.fcg_grammar.specs.Reading.{◌>>=◌, unless_broken}
-use Rattle.fcg_grammar.specs.Rows.{rows, ended}
+use Rattle.fcg_grammar.specs.Rows.{rows, carried}
+use Rattle.fcg_views.specs.declared.code.DynamicCall.{DynamicCall}
 use Rattle.fcg_views.specs.declared.view.Field.{Field}
 use Rattle.fcg_views.specs.declared.view.Method.{Method}
 use Rattle.fcg_views.specs.declared.view.Site.{Site}
 use Rattle.fcg_views.specs.declared.fault.ClassFault.{ClassFault}
 use Rattle.fcg_views.specs.declared.fault.ClassRule.TheVariants.{Descriptor, EmptyName, DoubleMethod, DoubleCode}
 use Rattle.fcg_views.specs.DescSteps.{is_descriptor, is_field_descriptor}
+use Rattle.fcg_views.specs.ClassFile.{BootstrapMethod}
+use Rattle.fcg_views.specs.Sites.{Found, joined, merged}
 use Rattle.fcg_views.specs.Valid.{site_count}
 use Rattle.fcg_views.specs.Breaks.Fault.{fault}
 use Rattle.fcg_views.specs.Breaks.Number.{u2_at}
 use Rattle.fcg_views.specs.Breaks.Pool.{Entries}
-use Rattle.fcg_views.specs.Breaks.Attributes.{up_to, text_at, named_at, content_at, attributes_at}
+use Rattle.fcg_views.specs.Breaks.Attributes.{text_at, attributes_at, ones_at}
 use Rattle.fcg_views.specs.Breaks.Code.{code_at}
-use Rattle.fcg_views.specs.Breaks.Words.{is_code, is_alike}
+use Rattle.fcg_views.specs.Breaks.Bootstrap.{call_sites}
+use Rattle.fcg_views.specs.Breaks.Words.{is_alike}
 
 -- what a field or a method declares
 pub record Declared : Type 0 where
@@ -50,45 +54,24 @@ fields_at pool at = do
   count ← u2_at pool.bytes at 0
   rows (field_at pool) count 0 (at + 2)
 
--- ==== the attributes of methods
+-- ==== methods, each with its calls of bootstrap methods
 
--- where the next attribute of a method stands, and the sites of the code that stands before it
-pub record CodeBegun : Type 0 where
-  pub at : ℕ
-  pub sites : Option (List Site)
+-- where the code of a method begins, and its calls
+pub record Calls : Type 0 where
+  pub begin : ℕ
+  pub calls : List DynamicCall
 
--- the content of a Code, of which there was none before
-unfoldable pub code_attribute_at : Entries → ℕ → CodeBegun → Result (Unit {0} × CodeBegun) ClassFault
-code_attribute_at pool count begun = do
-  once ← unless_broken (is_none begun.sites) (fault begun.at 0 DoubleCode)
-  after ← content_at pool begun.at
-  sites ← code_at (up_to after pool) (begun.at + 6) count
-  Ok (tt, record { at = after; sites = Some sites })
-
-abbrev pub other_attribute_at : Entries → CodeBegun → Result (Unit {0} × CodeBegun) ClassFault
-other_attribute_at pool begun = content_at pool begun.at >>= λ after. Ok (tt, record { at = after; sites = begun.sites })
-
--- an attribute of a method, where so many sites of the class are before it
-unfoldable pub method_attribute_at : Entries → ℕ → ℕ → CodeBegun → Result (Unit {0} × CodeBegun) ClassFault
-method_attribute_at pool count k begun = do
-  name ← named_at pool begun.at
-  if is_code name then code_attribute_at pool count begun else other_attribute_at pool begun
-
--- the attributes of a method whose count stands at a place
-unfoldable pub method_attributes_at : Entries → ℕ → ℕ → Result CodeBegun ClassFault
-method_attributes_at pool count at = do
-  n ← u2_at pool.bytes at 0
-  ended (rows (method_attribute_at pool count) n 0 (record { at = at + 2; sites = None }))
-
--- without a code there is no site
-abbrev pub or_none : Option (List Site) → List Site
-or_none None = []
-or_none (Some sites) = sites
-
--- ==== methods
+-- a method with the sites of its instructions, and its calls
+abbrev pub Unfinished : Type 0
+Unfinished = Method × Calls
 
 abbrev pub method_of : Declared → List Site → Method
 method_of d sites = record { name = d.name; desc = d.desc; flags = d.flags; sites = sites }
+
+-- the code stands behind the name and the length of its attribute, a number of its own and three more
+abbrev pub unfinished : Declared → Option (ℕ × Found) → Unfinished
+unfinished d None = (method_of d [], record { begin = 0; calls = [] })
+unfinished d (Some (at, x)) = (method_of d x.sites, record { begin = at + 14; calls = x.calls })
 
 -- where the next method stands, and the methods before it
 pub record Begun : Type 0 where
@@ -96,17 +79,34 @@ pub record Begun : Type 0 where
   pub earlier : List Method
 
 -- a method whose name and descriptor no earlier one has, and its attributes
-unfoldable pub method_at : Entries → ℕ → Begun → Result (Method × Begun) ClassFault
+unfoldable pub method_at : Entries → ℕ → Begun → Result (Unfinished × Begun) ClassFault
 method_at pool k begun = do
   declared ← declared_at pool is_descriptor begun.at
   fresh ← unless_broken (not (list_any (λ earlier. is_alike earlier (method_of declared [])) begun.earlier)) (fault begun.at 0 DoubleMethod)
-  read ← method_attributes_at pool (site_count begun.earlier) (begun.at + 6)
-  method ← Ok (method_of declared (or_none read.sites))
-  Ok (method, record { at = read.at; earlier = begun.earlier ++ method ∷ [] })
+  read ← ones_at (codes "Code") DoubleCode (code_at (site_count begun.earlier)) pool (begun.at + 6)
+  method ← Ok (unfinished declared read.read)
+  Ok (method, record { at = read.at; earlier = begun.earlier ++ method.0 ∷ [] })
 
 -- the methods whose count stands at a place, and the place after them
-unfoldable pub methods_at : Entries → ℕ → Result (List Method × ℕ) ClassFault
+unfoldable pub methods_at : Entries → ℕ → Result (List Unfinished × ℕ) ClassFault
 methods_at pool at = do
   count ← u2_at pool.bytes at 0
   read ← rows (method_at pool) count 0 (record { at = at + 2; earlier = [] })
   Ok (read.0, read.1.at)
+
+-- ==== the handle sites of their calls
+
+abbrev pub with_sites : Method → List Site → Method
+with_sites m sites = record { name = m.name; desc = m.desc; flags = m.flags; sites = sites }
+
+-- a method whole, where so many sites of the class are before its handle sites, and how many there are with them
+unfoldable pub finished : Entries → List BootstrapMethod → Unfinished → ℕ → Result (Method × ℕ) ClassFault
+finished pool bootstrap m count = do
+  handles ← carried (call_sites pool bootstrap m.1.begin) m.1.calls count
+  Ok (with_sites m.0 (merged m.0.sites (joined handles.0)), handles.1)
+
+-- The sites of all instructions are before the handle sites.
+unfoldable pub all_finished : Entries → List BootstrapMethod → List Unfinished → Result (List Method) ClassFault
+all_finished pool bootstrap methods = do
+  read ← carried (finished pool bootstrap) methods (sum_by (λ m. length m.0.sites) methods)
+  Ok read.0

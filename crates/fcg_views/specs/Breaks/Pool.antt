@@ -13,14 +13,15 @@ use Rattle.fcg_views.specs.Breaks.Groups.{bad_group}
 abbrev pub pool_fault : ℕ → ℕ → PoolRule → PoolFault
 pool_fault at index rule = record { offset = min at (2 ^ 32 - 1); index = index; rule = rule }
 
-abbrev pub u1_at : List ℕ → ℕ → ℕ → Result ℕ PoolFault
-u1_at bytes at index = number.u1_at (pool_fault at index Cut) bytes at
+-- what passes the file's end is cut, with no index
+abbrev pub u1_at : List ℕ → ℕ → Result ℕ PoolFault
+u1_at bytes at = number.u1_at (pool_fault at 0 Cut) bytes at
 
-abbrev pub u2_at : List ℕ → ℕ → ℕ → Result ℕ PoolFault
-u2_at bytes at index = number.u2_at (pool_fault at index Cut) bytes at
+abbrev pub u2_at : List ℕ → ℕ → Result ℕ PoolFault
+u2_at bytes at = number.u2_at (pool_fault at 0 Cut) bytes at
 
-abbrev pub part_at : List ℕ → ℕ → ℕ → ℕ → Result (List ℕ) PoolFault
-part_at bytes at n index = number.part_at (pool_fault at index Cut) bytes at n
+abbrev pub part_at : List ℕ → ℕ → ℕ → Result (List ℕ) PoolFault
+part_at bytes at n = number.part_at (pool_fault at 0 Cut) bytes at n
 
 -- the groups of a text that stands at a place
 abbrev pub grouped : Option ℕ → ℕ → Result (Unit {0}) PoolFault
@@ -31,28 +32,28 @@ grouped (Some at) index = Err (pool_fault at index BadUtf8)
 unfoldable pub shaped_at : List ℕ → ℕ → ℕ → ℕ → Option Shape → Result (Constant × ℕ) PoolFault
 shaped_at bytes index at tag None = Err (pool_fault at index BadTag)
 shaped_at bytes index at tag (Some Text) = do
-  n ← u2_at bytes (at + 1) index
-  text ← part_at bytes (at + 3) n index
+  n ← u2_at bytes (at + 1)
+  text ← part_at bytes (at + 3) n
   groups ← grouped (bad_group (at + 3) text) index
   Ok (Utf8 text, at + 3 + n)
 shaped_at bytes index at tag (Some (Bytes n)) = do
-  read ← part_at bytes (at + 1) n index
+  read ← part_at bytes (at + 1) n
   Ok (Plain tag read, at + 1 + n)
 shaped_at bytes index at tag (Some One) = do
-  i ← u2_at bytes (at + 1) index
+  i ← u2_at bytes (at + 1)
   Ok (Named tag i, at + 3)
 shaped_at bytes index at tag (Some Two) = do
-  i ← u2_at bytes (at + 1) index
-  j ← u2_at bytes (at + 3) index
+  i ← u2_at bytes (at + 1)
+  j ← u2_at bytes (at + 3)
   Ok (Pair tag i j, at + 5)
 shaped_at bytes index at tag (Some Kinded) = do
-  kind ← u1_at bytes (at + 1) index
-  i ← u2_at bytes (at + 2) index
+  kind ← u1_at bytes (at + 1)
+  i ← u2_at bytes (at + 2)
   Ok (Handle kind i, at + 4)
 
 unfoldable pub constant_read : List ℕ → ℕ → ℕ → Result (Constant × ℕ) PoolFault
 constant_read bytes index at = do
-  tag ← u1_at bytes at index
+  tag ← u1_at bytes at
   shaped_at bytes index at tag (shape_of tag)
 
 -- a constant, and the place of its tag
@@ -208,7 +209,7 @@ slot_kept pool index slot = kept_in pool index slot
 -- the count, the constants, their own indexes; and the place after them
 unfoldable pub pool_at : List ℕ → ℕ → Result (Entries × ℕ) PoolFault
 pool_at bytes at = do
-  count ← u2_at bytes at 0
+  count ← u2_at bytes at
   read ← rows (slot_at bytes) (count - 1) 1 (record { at = at + 2; second = false })
   checked ← each (slot_kept (record { bytes = bytes; slots = read.0 })) 1 read.0
   Ok (record { bytes = bytes; slots = read.0 }, read.1.at)

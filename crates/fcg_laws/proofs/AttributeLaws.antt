@@ -1,26 +1,21 @@
 -- Attributes: what is read is spelled so, and what is spelled so is read.
 use Rattle.std.proofs.Common.{◌≡◌, ℕ, ◌+◌, ◌^◌, ◌<◌, ◌≤◌, List, [], ◌∷◌, ◌++◌, length, refl, sym, ap, subst, arith}
-use Rattle.std.specs.Prelude.{◌≢◌, codes, Ok}
+use Rattle.std.specs.Prelude.{Ok}
 use Rattle.std.specs.List.{flat_map, AllByRecursion, AllZip}
 use Rattle.std.proofs.lemmas.List.{append-nil}
-use Rattle.fcg_grammar.specs.Reading.{unless_broken}
 use Rattle.fcg_grammar.specs.Rows.{rows}
 use Rattle.fcg_grammar.specs.Spell.{IsBytes, u2, u4}
-use Rattle.fcg_grammar.proofs.LawLemmas.{bind_ok, kept_ok}
+use Rattle.fcg_grammar.proofs.LawLemmas.{bind_ok}
 use Rattle.fcg_grammar.proofs.Standing.{Stands, Stands-then, Stands-to, ok_is}
 use Rattle.fcg_grammar.proofs.RowLaws.{FoundRow, ReadRow, rows_found, rows_only}
-use Rattle.fcg_views.specs.declared.fault.ClassRule.TheVariants.{NotBuilt}
 use Rattle.fcg_views.specs.ClassFile.{Constant, Attribute, attribute}
 use Rattle.fcg_views.specs.Constants.{NamesUtf8}
 use Rattle.fcg_views.specs.Reads.{IsNamed, IsPassed, ArePassed}
-use Rattle.fcg_views.specs.Breaks.Words.{is_known}
-use Rattle.fcg_views.specs.Breaks.Fault.{fault}
 use Rattle.fcg_views.specs.Breaks.Number.{u2_at, u4_at, part_at}
 use Rattle.fcg_views.specs.Breaks.Pool.{Entries, text_of}
-use Rattle.fcg_views.specs.Breaks.Attributes.{text_at, named_at, content_at, attribute_at, attributes_at}
+use Rattle.fcg_views.specs.Breaks.Attributes.{text_at, content_at, attribute_at, attributes_at}
 use Rattle.fcg_laws.proofs.Places.{u2_found, u2_only, u4_found, u4_only, part_found, part_only, closed, opened}
 use Rattle.fcg_laws.specs.Tables.{Holds}
-use Rattle.fcg_laws.proofs.WordLaws.{known_found, known_only}
 use Rattle.fcg_laws.proofs.NameLaws.{text_found, text_only, at_ok}
 
 -- what holds of each row
@@ -52,28 +47,6 @@ module _ (pool : Entries) (fits : IsBytes pool.bytes) (constants : List Constant
       let n = u2_only pool.bytes at 0 index rest after few s in
       let t = text_only pool constants holds index text named in
       (rw (n.0, t) refl, n.1)
-
-  -- the name and the length of an attribute, and its content
-  pub record FoundName (at : ℕ) (name : List ℕ) : Type 0 where
-    pub index : ℕ
-    pub few : index < 2 ^ 16
-    pub stands : Stands pool.bytes at (u2 index) (at + 2)
-    pub named : NamesUtf8 constants index name
-    pub no_methods : name ≢ codes "BootstrapMethods"
-
-  pub named_found : (at : ℕ) (name : List ℕ) → named_at pool at ≡ Ok name → FoundName at name
-  unfolding named_at
-  named_found at name e =
-      let a = bind_ok (text_at pool at) _ name e in
-      let b = bind_ok (unless_broken (is_known a.0) (fault at 0 NotBuilt)) _ name a.2 in
-      let text = text_at_found at a.0 a.1 in
-      subst (λ (y : List ℕ). FoundName at y) (ok_is a.0 name b.2) (record { index = text.index; few = text.few; stands = text.stands; named = text.named; no_methods = known_found a.0 (kept_ok _ _ b.0 b.1) })
-
-  pub named_only : (at index : ℕ) (name rest : List ℕ) (after : ℕ) → index < 2 ^ 16 → NamesUtf8 constants index name → name ≢ codes "BootstrapMethods" → Stands pool.bytes at (u2 index ++ rest) after → (named_at pool at ≡ Ok name) × Stands pool.bytes (at + 2) rest after
-  unfolding named_at
-  named_only at index name rest after few named no_methods s =
-      let n = text_at_only at index name rest after few named s in
-      (rw (n.0, known_only name no_methods) refl, n.1)
 
   pub record FoundContent (at after : ℕ) : Type 0 where
     pub content : List ℕ
@@ -108,16 +81,16 @@ module _ (pool : Entries) (fits : IsBytes pool.bytes) (constants : List Constant
     pub named : IsNamed constants row name
     pub here : Stands pool.bytes (at + 6) row.content after
 
-  pub whole_attribute : (at after : ℕ) (name : List ℕ) → FoundName at name → FoundContent at after → FoundAttribute at name after
+  pub whole_attribute : (at after : ℕ) (name : List ℕ) → FoundText at name → FoundContent at after → FoundAttribute at name after
   whole_attribute at after name n c = record {
     row = record { name = n.index; content = c.content };
     stands = closed (u2 n.index ++ u4 (length c.content)) c.content (Stands-then n.stands c.stands);
-    named = record { index = n.few; named = n.named; no_methods = n.no_methods; fits = c.few };
+    named = record { index = n.few; named = n.named; fits = c.few };
     here = c.here;
   }
 
   pub record ReadAttribute (at : ℕ) (a : Attribute) (name rest : List ℕ) (after : ℕ) : Type 0 where
-    pub name_is : named_at pool at ≡ Ok name
+    pub name_is : text_at pool at ≡ Ok name
     pub content_is : content_at pool at ≡ Ok (at + length (attribute a))
     pub content_stands : Stands pool.bytes (at + 6) (a.content ++ rest) after
     pub ends : at + 6 + length a.content ≡ at + length (attribute a)
@@ -125,7 +98,7 @@ module _ (pool : Entries) (fits : IsBytes pool.bytes) (constants : List Constant
   pub attribute_read : (at : ℕ) (a : Attribute) (name rest : List ℕ) (after : ℕ) → IsNamed constants a name → Stands pool.bytes at (attribute a ++ rest) after → ReadAttribute at a name rest after
   attribute_read at a name rest after is s =
       let here = opened (u2 a.name ++ u4 (length a.content)) a.content rest s in
-      let n = named_only at a.name name (u4 (length a.content) ++ (a.content ++ rest)) after is.index is.named is.no_methods here in
+      let n = text_at_only at a.name name (u4 (length a.content) ++ (a.content ++ rest)) after is.index is.named here in
       let c = content_only at a.content rest after is.fits n.1 in
       let ends : at + 6 + length a.content ≡ at + length (attribute a) = omega (arith, ap length (append-nil a.content)) in
       record { name_is = n.0; content_is = subst (λ (end : ℕ). content_at pool at ≡ Ok end) ends c.0; content_stands = c.1; ends = ends }
@@ -136,9 +109,9 @@ module _ (pool : Entries) (fits : IsBytes pool.bytes) (constants : List Constant
   attribute_found : (k at : ℕ) (x : Unit {0} × ℕ) → at ≤ length pool.bytes → attribute_at pool k at ≡ Ok x → FoundRow pool.bytes attribute Passes (attribute_at pool) at x.0 x.1
   unfolding attribute_at
   attribute_found k at x le e =
-      let a = bind_ok (named_at pool at) _ x e in
+      let a = bind_ok (text_at pool at) _ x e in
       let b = bind_ok (content_at pool at) _ x a.2 in
-      let f = whole_attribute at b.0 a.0 (named_found at a.0 a.1) (content_found at b.0 b.1) in
+      let f = whole_attribute at b.0 a.0 (text_at_found at a.0 a.1) (content_found at b.0 b.1) in
       subst (λ (y : Unit {0} × ℕ). FoundRow pool.bytes attribute Passes (attribute_at pool) at y.0 y.1) (ok_is _ x b.2) (record { row = f.row; stands = f.stands; meant = (a.0, f.named) })
 
   attribute_only : (k at : ℕ) (a : Attribute) (rest : List ℕ) (after : ℕ) → IsPassed constants a → Stands pool.bytes at (attribute a ++ rest) after → ReadRow pool.bytes attribute Passes (attribute_at pool) k at a

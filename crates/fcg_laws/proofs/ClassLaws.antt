@@ -94,10 +94,11 @@ assembled bytes pool fits after v header p found =
         few_fields = body.few_fields;
         fields = body.fields_are;
         few_methods = body.few_methods;
+        rows = body.rows;
         methods = body.methods_are;
         distinct = methods_differ v.methods body.distinct;
         few_sites = body.few_sites;
-        attributes = body.passed;
+        attributes = body.attributes_are;
       },
     )
 
@@ -143,10 +144,11 @@ body_of c v is = record {
   few_fields = is.few_fields;
   fields_are = is.fields;
   few_methods = is.few_methods;
+  rows = is.rows;
   methods_are = is.methods;
   distinct = methods_distinct v.methods is.distinct;
   few_sites = is.few_sites;
-  passed = is.attributes;
+  attributes_are = is.attributes;
 }
 
 -- the body, by the pool that was read

@@ -11,19 +11,19 @@ use Rattle.fcg_grammar.proofs.LawLemmas.{bind_ok, kept_ok}
 use Rattle.fcg_grammar.proofs.Limits.{IsBytes-part}
 use Rattle.fcg_grammar.proofs.RowLaws.{FoundRow, ReadRow, rows_found, rows_only}
 use Rattle.fcg_grammar.proofs.Standing.{Stands, Stands-then, Stands-to, ok_is, whole_is, is_whole, end_is}
-use Rattle.fcg_views.specs.declared.view.Site.{Site}
 use Rattle.fcg_views.specs.declared.fault.ClassRule.TheVariants.{CodeLength, Trailing}
 use Rattle.fcg_views.specs.ClassFile.{Constant, Attribute, attribute, Code, code_info}
 use Rattle.fcg_views.specs.Reads.{IsCodeOf}
+use Rattle.fcg_views.specs.Sites.{Found}
 use Rattle.fcg_views.specs.Breaks.Fault.{fault}
 use Rattle.fcg_views.specs.Breaks.Number.{u2_at, u4_at, part_at}
 use Rattle.fcg_views.specs.Breaks.Pool.{Entries}
 use Rattle.fcg_views.specs.Breaks.Attributes.{attributes_at}
-use Rattle.fcg_views.specs.Breaks.Code.{sites_of, handler_at, handlers_at, code_at}
+use Rattle.fcg_views.specs.Breaks.Code.{found_of, handler_at, handlers_at, code_at}
 use Rattle.fcg_laws.specs.Tables.{Holds}
 use Rattle.fcg_laws.proofs.Places.{u2_found, u2_only, u4_found, u4_only, part_found, part_only, closed}
 use Rattle.fcg_laws.proofs.AttributeLaws.{zip_left, attributes_found, attributes_only}
-use Rattle.fcg_laws.proofs.SiteLaws.{sites_found, sites_only}
+use Rattle.fcg_laws.proofs.SiteLaws.{all_found, all_only}
 
 -- ---- the exception table
 module _ (bytes : List ℕ) where
@@ -97,31 +97,31 @@ eight : (at : ℕ) → at + 4 + 4 ≡ at + 8
 eight at = omega arith
 
 module _ (pool : Entries) (bytes_fit : IsBytes pool.bytes) (constants : List Constant) (holds : Holds pool constants) where
-  pub record FoundCode (at count : ℕ) (sites : List Site) : Type 0 where
+  pub record FoundCode (at count : ℕ) (x : Found) : Type 0 where
     pub info : Code
     pub stands : Stands pool.bytes at (code_info info) (length pool.bytes)
-    pub code : IsCodeOf constants info sites
-    pub few : count + length sites ≤ 1000000
+    pub code : IsCodeOf constants info x
+    pub few : count + length x.sites ≤ 1000000
 
-  pub code_found : (at count : ℕ) (sites : List Site) → count ≤ 1000000 → code_at pool at count ≡ Ok sites → FoundCode at count sites
+  pub code_found : (at count : ℕ) (x : Found) → count ≤ 1000000 → code_at count pool at ≡ Ok x → FoundCode at count x
   unfolding code_at
-  code_found at count sites le e =
-      let a = bind_ok (u2_at pool.bytes at 0) _ sites e in
-      let b = bind_ok (u2_at pool.bytes (at + 2) 0) _ sites a.2 in
-      let c = bind_ok (u4_at pool.bytes (at + 4) 0) _ sites b.2 in
-      let d = bind_ok (unless_broken (leb 1 c.0 && leb c.0 65535) (fault (at + 4) 0 CodeLength)) _ sites c.2 in
-      let f = bind_ok (part_at pool.bytes (at + 8) c.0 0) _ sites d.2 in
-      let g = bind_ok (sites_of pool (at + 8) f.0 count) _ sites f.2 in
-      let h = bind_ok (handlers_at pool.bytes (at + 8 + c.0)) _ sites g.2 in
-      let i = bind_ok (attributes_at pool h.0) _ sites h.2 in
-      let j = bind_ok (unless_broken (eqb (length pool.bytes) i.0) (fault i.0 0 Trailing)) _ sites i.2 in
+  code_found at count x le e =
+      let a = bind_ok (u2_at pool.bytes at 0) _ x e in
+      let b = bind_ok (u2_at pool.bytes (at + 2) 0) _ x a.2 in
+      let c = bind_ok (u4_at pool.bytes (at + 4) 0) _ x b.2 in
+      let d = bind_ok (unless_broken (leb 1 c.0 && leb c.0 65535) (fault (at + 4) 0 CodeLength)) _ x c.2 in
+      let f = bind_ok (part_at pool.bytes (at + 8) c.0 0) _ x d.2 in
+      let g = bind_ok (found_of pool (at + 8) f.0 count) _ x f.2 in
+      let h = bind_ok (handlers_at pool.bytes (at + 8 + c.0)) _ x g.2 in
+      let i = bind_ok (attributes_at pool h.0) _ x h.2 in
+      let j = bind_ok (unless_broken (eqb (length pool.bytes) i.0) (fault i.0 0 Trailing)) _ x i.2 in
       let stack = u2_found pool.bytes at 0 a.0 bytes_fit a.1 in
       let locals = u2_found pool.bytes (at + 2) 0 b.0 bytes_fit b.1 in
       let n = u4_found pool.bytes (at + 4) 0 c.0 bytes_fit c.1 in
       let sized = and_parts (leb 1 c.0) (leb c.0 65535) (kept_ok _ _ d.0 d.1) in
       let code = part_found pool.bytes (at + 8) c.0 0 f.0 f.1 in
       let code_fits : IsBytes f.0 = IsBytes-part pool.bytes (at + 8) c.0 f.0 bytes_fit code.2 in
-      let inner = sites_found pool constants holds (at + 8) f.0 code_fits (1 + length f.0) 0 count g.0 le g.1 in
+      let inner = all_found pool constants holds (at + 8) f.0 code_fits (1 + length f.0) 0 count g.0 le g.1 in
       let handlers = handlers_found pool.bytes bytes_fit (at + 8 + c.0) h.0 h.1 in
       let attributes = attributes_found pool bytes_fit constants holds h.0 i.0 i.1 in
       let end : length pool.bytes ≡ i.0 = eqb-true _ _ (kept_ok _ _ j.0 j.1) in
@@ -130,7 +130,7 @@ module _ (pool : Entries) (bytes_fit : IsBytes pool.bytes) (constants : List Con
       let last = Stands-to (length pool.bytes) (sym end) attributes.stands in
       let least : 1 ≤ c.0 = leb-true _ _ sized.0 in
       let most : c.0 ≤ 65535 = leb-true _ _ sized.1 in
-      subst (λ (l : List Site). FoundCode at count l) (ok_is g.0 sites j.2) (record {
+      subst (λ (y : Found). FoundCode at count y) (ok_is g.0 x j.2) (record {
         info = record { stack = a.0; locals = b.0; code = f.0; handlers = handlers.table; attributes = attributes.table };
         stands = code_stands a.0 b.0 f.0 handlers.table attributes.table stack.0 s1 s2 code.0 handlers.stands last;
         code = record {
@@ -140,7 +140,7 @@ module _ (pool : Entries) (bytes_fit : IsBytes pool.bytes) (constants : List Con
           short = omega (arith, most, code.1);
           instructions = inner.instrs;
           code = record { spelled = whole_is f.0 _ inner.stands; fit = inner.fits };
-          sites_are = inner.sites_are;
+          found = inner.are;
           few_handlers = handlers.few;
           handlers = handlers.long;
           attributes = attributes.passed;
@@ -148,9 +148,9 @@ module _ (pool : Entries) (bytes_fit : IsBytes pool.bytes) (constants : List Con
         few = inner.few;
       })
 
-  pub code_only : (at count : ℕ) (c : Code) (sites : List Site) → IsCodeOf constants c sites → count + length sites ≤ 1000000 → Stands pool.bytes at (code_info c) (length pool.bytes) → code_at pool at count ≡ Ok sites
+  pub code_only : (at count : ℕ) (c : Code) (x : Found) → IsCodeOf constants c x → count + length x.sites ≤ 1000000 → Stands pool.bytes at (code_info c) (length pool.bytes) → code_at count pool at ≡ Ok x
   unfolding code_at
-  code_only at count c sites is few s =
+  code_only at count c x is few s =
       let end : ℕ = length pool.bytes in
       let last : List ℕ = u2 (length c.attributes) ++ (flat_map attribute c.attributes ++ []) in
       let rest : List ℕ = u2 (length c.handlers) ++ (flat_map (λ row. row) c.handlers ++ last) in
@@ -161,7 +161,7 @@ module _ (pool : Entries) (bytes_fit : IsBytes pool.bytes) (constants : List Con
       let sized : (leb 1 (length c.code) && leb (length c.code) 65535) ≡ true = (let most = is.short in let least = is.some in grind (arith, nat_tests)) in
       let s8 = subst (λ (n : ℕ). Stands pool.bytes n (c.code ++ rest) end) (eight at) n.1 in
       let code = part_only pool.bytes (at + 8) 0 c.code rest end s8 in
-      let inner = sites_only pool constants holds (at + 8) c.code (1 + length c.code) 0 count is.instructions sites (omega arith) is.code.fit is.sites_are few (is_whole c.code _ is.code.spelled) in
+      let inner = all_only pool constants holds (at + 8) c.code (1 + length c.code) 0 count is.instructions x (omega arith) is.code.fit is.found few (is_whole c.code _ is.code.spelled) in
       let h = handlers_only pool.bytes (at + 8 + length c.code) c.handlers last end is.few_handlers is.handlers code.1 in
       let k = attributes_only pool bytes_fit constants holds h.end c.attributes [] end is.attributes h.stands in
       let ended = end_is pool.bytes k.end k.stands in

@@ -15,10 +15,10 @@ use Rattle.fcg_views.specs.Breaks.Words.{is_alike}
 use Rattle.fcg_views.specs.Breaks.Number.{u2_at}
 use Rattle.fcg_views.specs.Breaks.Pool as pools
 use Rattle.fcg_views.specs.Breaks.Pool.{constant_read, Placed, Next, index_read, slot_at, Entries, slot_kept, pool_at}
-use Rattle.fcg_views.specs.Breaks.Members.{Begun, method_at, methods_at}
+use Rattle.fcg_views.specs.Breaks.Members.{Unfinished, Begun, method_at, methods_at}
 use Rattle.fcg_laws.specs.Tables.{unplaced, Holds}
 use Rattle.fcg_laws.specs.Faults as faults
-use Rattle.fcg_laws.specs.Faults.{Fills, BrokenPool, BrokenMethods}
+use Rattle.fcg_laws.specs.Faults.{Fills, BrokenPool, own, BrokenMethods}
 use Rattle.fcg_laws.proofs.Places.{u2_found}
 use Rattle.fcg_laws.proofs.PoolPlaces as pool_places
 use Rattle.fcg_laws.proofs.SlotLaws.{FoundSlots, slots_found}
@@ -65,10 +65,10 @@ module _ (bytes : List ℕ) (fits : IsBytes bytes) where
   pub pool_broken : (at : ℕ) (f : PoolFault) → pool_at bytes at ≡ Err f → BrokenPool bytes at f
   unfolding pool_at
   pool_broken at f e =
-      elim (bind_err (pools.u2_at bytes at 0) _ f e) [
+      elim (bind_err (pools.u2_at bytes at) _ f e) [
         | inl cut ↦ faults.BrokenPool.InCount cut
         | inr a ↦ (
-            let count = pool_places.u2_found bytes at 0 a.0 fits a.1 in
+            let count = pool_places.u2_found bytes at a.0 fits a.1 in
             elim (bind_err (rows (slot_at bytes) (a.0 - 1) 1 (from_one (at + 2))) _ f a.2) [
               | inl row ↦ in_constant at a.0 f count.0 (rows_err (slot_at bytes) (a.0 - 1) 1 (from_one (at + 2)) f row)
               | inr b ↦ elim (bind_err (each (slot_kept (pool_of b.0.0)) 1 b.0.0) _ f b.2) [
@@ -82,12 +82,12 @@ module _ (bytes : List ℕ) (fits : IsBytes bytes) where
 -- ---- the methods
 module _ (pool : Entries) (fits : IsBytes pool.bytes) (constants : List Constant) (holds : Holds pool constants) where
   -- the methods that were read are those before the next
-  kept_earlier : (s : Begun) (cs : List MemberInfo) (ms : List Method) (end : Begun) → Follow pool fits constants holds s cs ms end → s.earlier ++ ms ≡ end.earlier
+  kept_earlier : (s : Begun) (cs : List MemberInfo) (ms : List Unfinished) (end : Begun) → Follow pool fits constants holds s cs ms end → s.earlier ++ own ms ≡ end.earlier
   kept_earlier s [] [] end l = append-nil s.earlier ∙ ap (λ (b : Begun). b.earlier) l
   kept_earlier s [] (m ∷ ms) end l = absurd l
   kept_earlier s (c ∷ cs) [] end l = absurd l
   kept_earlier s (c ∷ cs) (m ∷ ms) end l =
-      sym (append_assoc s.earlier (m ∷ []) ms) ∙ ap (λ (e : List Method). e ++ ms) (sym l.1.earlier) ∙ kept_earlier l.0 cs ms end l.2
+      sym (append_assoc s.earlier (m.0 ∷ []) (own ms)) ∙ ap (λ (e : List Method). e ++ own ms) (sym l.1.earlier) ∙ kept_earlier l.0 cs ms end l.2
 
   abbrev begun_at : ℕ → Begun
   begun_at at = record { at = at; earlier = [] }
@@ -99,12 +99,12 @@ module _ (pool : Entries) (fits : IsBytes pool.bytes) (constants : List Constant
   in_method at count f s r =
       let found = states.rows_kept pool.bytes place member_info (MeansMethod constants) (method_at pool) (HasFew pool fits constants holds) (method_found pool fits constants holds) (length r.front) 0 (begun_at (at + 2)) (r.front, r.at) s.within (omega arith) r.read_is in
       let along = follow_found pool fits constants holds (begun_at (at + 2)) found.table r.front r.at found.meant in
-      let earlier : r.front ≡ r.at.earlier = kept_earlier (begun_at (at + 2)) found.table r.front r.at found.meant in
-      let here : Begun = record { at = r.at.at; earlier = r.front } in
+      let earlier : own r.front ≡ r.at.earlier = kept_earlier (begun_at (at + 2)) found.table r.front r.at found.meant in
+      let here : Begun = record { at = r.at.at; earlier = own r.front } in
       let same : r.at ≡ here = ap (λ (ms : List Method). record { at = r.at.at; earlier = ms }) (sym earlier) in
       let many : 0 + length r.front ≡ length found.table = omega (arith, found.many) in
       let lt = r.before in
-      faults.BrokenMethods.InMethod count found.table r.front r.at.at (fills pool.bytes at _ r.at.at (Stands-then s found.stands)) (omega (arith, many, lt)) along.0 (distinct_found is_alike r.front along.1)
+      faults.BrokenMethods.InMethod count found.table r.front r.at.at (fills pool.bytes at _ r.at.at (Stands-then s found.stands)) (omega (arith, many, lt)) along.0 (distinct_found is_alike (own r.front) along.1)
       (subst (λ (n : ℕ). method_at pool n here ≡ Err f) many (subst (λ (b : Begun). method_at pool (0 + length r.front) b ≡ Err f) same r.broken))
 
   pub methods_broken : (at : ℕ) (f : ClassFault) → methods_at pool at ≡ Err f → BrokenMethods pool constants at f

@@ -21,4 +21,6 @@ pub mod FaultLaws
 pub mod InstructionLaws
 pub mod SiteLaws
 pub mod CodeLaws
-pub mod MethodAttributeLaws
+pub mod OneLaws
+pub mod HandleLaws
+pub mod FinishLaws

@@ -62,7 +62,7 @@ pair_by tags (Pair tag i j) p e =
     (ap (λ (x : Indexes). Pair x.tag x.first x.second) same, ap (λ (x : Indexes). is_one_of tags x.tag) (sym same) ∙ kept_ok _ _ a.0 a.1)
 pair_by tags (Handle kind i) p e = absurd cc
 
-handle_by : (c : Constant) (x : ℕ × ℕ) → handle_in c ≡ Ok x → c ≡ Handle x.0 x.1
+pub handle_by : (c : Constant) (x : ℕ × ℕ) → handle_in c ≡ Ok x → c ≡ Handle x.0 x.1
 handle_by (Utf8 text) x e = absurd cc
 handle_by (Plain tag bytes) x e = absurd cc
 handle_by (Named tag i) x e = absurd cc

@@ -1,5 +1,5 @@
--- The sites of a code: what is read is what the instructions name, and what they name is read.
-use Rattle.std.proofs.Common.{◌≡◌, ℕ, zero, suc, ◌+◌, ◌*◌, ◌^◌, ◌≤◌, ◌<◌, Bool, true, false, not, eqb, ltb, List, [], ◌∷◌, ◌++◌, length, get_or, Option, Some, None, refl, sym, ap, subst, ◌∙◌, inl, inr, arith}
+-- The sites and the calls of a code: what is read is what the instructions name, and what they name is read.
+use Rattle.std.proofs.Common.{◌≡◌, ℕ, zero, suc, ◌+◌, ◌*◌, ◌^◌, ◌≤◌, ◌<◌, Bool, true, false, eqb, ltb, List, [], ◌∷◌, ◌++◌, length, get_or, Option, Some, None, refl, sym, ap, subst, ◌∙◌, inl, inr, arith}
 use Rattle.std.specs.Prelude.{Result, Ok, Err}
 use Rattle.std.specs.List.{flat_map}
 use Rattle.std.proofs.lemmas.Bool.{eqb-true, ltb-true, lt-ltb}
@@ -12,24 +12,25 @@ use Rattle.fcg_grammar.specs.Spell.{IsBytes, u2}
 use Rattle.fcg_grammar.proofs.LawLemmas.{bind_ok, chosen, kept_ok, ok_or_err}
 use Rattle.fcg_grammar.proofs.FaultLaws.{bind_err}
 use Rattle.fcg_grammar.proofs.Standing.{Stands, Stands-none, Stands-back, ok_is}
+use Rattle.fcg_views.specs.declared.code.DynamicCall.{DynamicCall}
 use Rattle.fcg_views.specs.declared.view.Ref.{Ref}
 use Rattle.fcg_views.specs.declared.view.Site.{Site}
 use Rattle.fcg_views.specs.declared.code.CodeRule.{CodeRule}
 use Rattle.fcg_views.specs.declared.fault.ClassFault.{ClassFault}
-use Rattle.fcg_views.specs.declared.fault.ClassRule.TheVariants.{WrongKind, EmptyName, Descriptor, ManySites, NotBuilt}
+use Rattle.fcg_views.specs.declared.fault.ClassRule.TheVariants.{WrongKind, EmptyName, Descriptor, ManySites}
 use Rattle.fcg_views.specs.ClassFile.{is_one_of, Constant}
 use Rattle.fcg_views.specs.Descriptor.{IsDescriptor, IsFieldDescriptor}
 use Rattle.fcg_views.specs.DescSteps.{is_descriptor, is_field_descriptor}
 use Rattle.fcg_views.specs.Instructions.{Form, Fixed, Table, Lookup, Wide, form_of, Instruction, Plain, TableSwitch, LookupSwitch, Widened, instruction, FitsAt, FitFrom}
-use Rattle.fcg_views.specs.Sites.{Named, Method, Field, Class, SiteForm, site_form, is_unread, IsMember, IsClass, IsNamed, IsSite, IsSiteWith, AreFormed, AreSitesOf, AreSites}
+use Rattle.fcg_views.specs.Sites.{Target, ToMethod, ToField, ToType, SiteForm, site_form, is_dynamic, IsMember, IsType, IsTarget, IsSite, HasIndex, AreFormed, IsCall, AreDynamic, Found, nothing, both, AreOf, AreFound}
 use Rattle.fcg_views.specs.Breaks.Fault.{fault, at_place, at_opcode}
-use Rattle.fcg_views.specs.Breaks.Pool.{Entries, Reference, reference_of}
+use Rattle.fcg_views.specs.Breaks.Pool.{Entries, Reference, reference_of, dynamic_of}
 use Rattle.fcg_views.specs.Breaks.Instructions.{next_at, operand_at}
 use Rattle.fcg_views.specs.Breaks.Names.{type_of}
-use Rattle.fcg_views.specs.Breaks.Code.{member_of, class_ref, target_of, site_at, sites_by, sites_at, sites_from}
+use Rattle.fcg_views.specs.Breaks.Code.{member_of, type_ref, target_of, site_of, sites_by, calls_by, found_at, found_from}
 use Rattle.fcg_views.proofs.DescLaws.{descriptor_found, descriptor_only, field_descriptor_found, field_descriptor_only}
 use Rattle.fcg_laws.specs.Tables.{Holds}
-use Rattle.fcg_laws.proofs.NameLaws.{at_ok, reference_found, reference_only}
+use Rattle.fcg_laws.proofs.NameLaws.{at_ok, reference_found, reference_only, dynamic_found, dynamic_only}
 use Rattle.fcg_laws.proofs.TypeNameLaws.{type_of_found, type_of_only}
 use Rattle.fcg_laws.proofs.InstructionLaws.{FoundAt, next_found, next_only, some_byte, opcode_is, operand_is, stands_first, not_end, further}
 
@@ -67,8 +68,8 @@ called_long op form e =
       ]
     ]
 
-unread_long : (op : ℕ) → is_unread op ≡ true → IsLong op
-unread_long op e = by_number 186 op (2, refl) e
+dynamic_long : (op : ℕ) → is_dynamic op ≡ true → IsLong op
+dynamic_long op e = by_number 186 op (2, refl) e
 
 -- an opcode of another form is none of them
 abbrev IsShortForm : Form → Type 0
@@ -94,8 +95,8 @@ false_by false h = refl
 no_call : (op : ℕ) (f : Form) → IsShortForm f → form_of op ≡ Some f → site_form op ≡ None
 no_call op f short is = none_by (site_form op) (λ g e. not_long op f short is (called_long op g e))
 
-all_read : (op : ℕ) (f : Form) → IsShortForm f → form_of op ≡ Some f → is_unread op ≡ false
-all_read op f short is = false_by (is_unread op) (λ e. not_long op f short is (unread_long op e))
+no_dynamic : (op : ℕ) (f : Form) → IsShortForm f → form_of op ≡ Some f → is_dynamic op ≡ false
+no_dynamic op f short is = false_by (is_dynamic op) (λ e. not_long op f short is (dynamic_long op e))
 
 -- ---- a site
 abbrev site : SiteForm → ℕ → Ref → Site
@@ -136,43 +137,43 @@ module _ (pool : Entries) (constants : List Constant) (holds : Holds pool consta
   abbrev made_ref : List ℕ → Bool → List ℕ → List ℕ → Ref
   made_ref owner interface name desc = record { owner = owner; owner_is_interface_ref = interface; name = name; desc = desc }
 
-  class_is : (r : Ref) → r.owner_is_interface_ref ≡ false → r.name ≡ [] → r.desc ≡ [] → class_ref r.owner ≡ r
-  class_is r i n d = ap (λ (b : Bool). made_ref r.owner b [] []) (sym i) ∙ ap (λ (l : List ℕ). made_ref r.owner r.owner_is_interface_ref l []) (sym n) ∙ ap (λ (l : List ℕ). made_ref r.owner r.owner_is_interface_ref r.name l) (sym d)
+  type_is : (r : Ref) → r.owner_is_interface_ref ≡ false → r.name ≡ [] → r.desc ≡ [] → type_ref r.owner ≡ r
+  type_is r i n d = ap (λ (b : Bool). made_ref r.owner b [] []) (sym i) ∙ ap (λ (l : List ℕ). made_ref r.owner r.owner_is_interface_ref l []) (sym n) ∙ ap (λ (l : List ℕ). made_ref r.owner r.owner_is_interface_ref r.name l) (sym d)
 
-  target_found : (named : Named) (at index : ℕ) (r : Ref) → target_of pool named at index ≡ Ok r → IsNamed constants named index r
-  target_found (Method tags) at index r e = member_found IsDescriptor is_descriptor descriptor_found descriptor_only tags at index r e
-  target_found Field at index r e = member_found IsFieldDescriptor is_field_descriptor field_descriptor_found field_descriptor_only (9 ∷ []) at index r e
-  target_found Class at index r e =
+  target_found : (target : Target) (at index : ℕ) (r : Ref) → target_of pool target at index ≡ Ok r → IsTarget constants target index r
+  target_found (ToMethod tags) at index r e = member_found IsDescriptor is_descriptor descriptor_found descriptor_only tags at index r e
+  target_found ToField at index r e = member_found IsFieldDescriptor is_field_descriptor field_descriptor_found field_descriptor_only (9 ∷ []) at index r e
+  target_found ToType at index r e =
       let a = bind_ok (type_of pool at index) _ r e in
       let t = type_of_found pool constants holds at index a.0 a.1 in
-      subst (λ (x : Ref). IsClass constants index x) (ok_is (class_ref a.0) r a.2) (record { named = t.0; owner = t.1; interface = refl; name = refl; desc = refl })
+      subst (λ (x : Ref). IsType constants index x) (ok_is (type_ref a.0) r a.2) (record { named = t.0; owner = t.1; interface = refl; name = refl; desc = refl })
 
-  target_only : (named : Named) (at index : ℕ) (r : Ref) → IsNamed constants named index r → target_of pool named at index ≡ Ok r
-  target_only (Method tags) at index r is = member_only IsDescriptor is_descriptor descriptor_found descriptor_only tags at index r is
-  target_only Field at index r is = member_only IsFieldDescriptor is_field_descriptor field_descriptor_found field_descriptor_only (9 ∷ []) at index r is
-  target_only Class at index r is = rw (type_of_only pool constants holds at index r.owner is.named is.owner) (ap (λ (x : Ref). Ok x) (class_is r is.interface is.name is.desc))
+  target_only : (target : Target) (at index : ℕ) (r : Ref) → IsTarget constants target index r → target_of pool target at index ≡ Ok r
+  target_only (ToMethod tags) at index r is = member_only IsDescriptor is_descriptor descriptor_found descriptor_only tags at index r is
+  target_only ToField at index r is = member_only IsFieldDescriptor is_field_descriptor field_descriptor_found field_descriptor_only (9 ∷ []) at index r is
+  target_only ToType at index r is = rw (type_of_only pool constants holds at index r.owner is.named is.owner) (ap (λ (x : Ref). Ok x) (type_is r is.interface is.name is.desc))
 
   made_is : (form : SiteForm) (pc : ℕ) (s : Site) → s.pc ≡ pc → s.kind ≡ form.kind → site form pc s.target ≡ s
   made_is form pc s p k = rw (← p, ← k) refl
 
+  pub site_found : (form : SiteForm) (at pc index count : ℕ) (s : Site) → site_of pool form at pc index count ≡ Ok s → IsSite constants form pc index s × (count < 1000000)
+  unfolding site_of
+  site_found form at pc index count s e =
+      let a = bind_ok (target_of pool form.target at index) _ s e in
+      let b = bind_ok (unless_broken (ltb count 1000000) (fault at 0 ManySites)) _ s a.2 in
+      let t = target_found form.target at index a.0 a.1 in
+      let few : count < 1000000 = ltb-true _ _ (kept_ok _ _ b.0 b.1) in
+      subst (λ (x : Site). IsSite constants form pc index x × (count < 1000000)) (ok_is (site form pc a.0) s b.2) (record { pc_is = refl; kind_is = refl; target_is = t }, few)
+
+  pub site_only : (form : SiteForm) (at pc index count : ℕ) (s : Site) → count < 1000000 → IsSite constants form pc index s → site_of pool form at pc index count ≡ Ok s
+  unfolding site_of
+  site_only form at pc index count s few is =
+      let t = target_only form.target at index s.target is.target_is in
+      let counted : ltb count 1000000 ≡ true = lt-ltb _ _ few in
+      rw (t, counted) (ap (λ (x : Site). Ok x) (made_is form pc s is.pc_is is.kind_is))
+
   module _ (begin : ℕ) (code : List ℕ) where
-    site_found : (form : SiteForm) (pc count : ℕ) (s : Site) → site_at pool begin code form pc count ≡ Ok s → IsSite constants form pc (operand_at code pc) s × (count < 1000000)
-    unfolding site_at
-    site_found form pc count s e =
-        let a = bind_ok (target_of pool form.named (begin + pc) (operand_at code pc)) _ s e in
-        let b = bind_ok (unless_broken (ltb count 1000000) (fault (begin + pc) 0 ManySites)) _ s a.2 in
-        let t = target_found form.named (begin + pc) (operand_at code pc) a.0 a.1 in
-        let few : count < 1000000 = ltb-true _ _ (kept_ok _ _ b.0 b.1) in
-        subst (λ (x : Site). IsSite constants form pc (operand_at code pc) x × (count < 1000000)) (ok_is (site form pc a.0) s b.2) (record { pc_is = refl; kind_is = refl; target = t }, few)
-
-    site_only : (form : SiteForm) (pc count : ℕ) (s : Site) → count < 1000000 → IsSite constants form pc (operand_at code pc) s → site_at pool begin code form pc count ≡ Ok s
-    unfolding site_at
-    site_only form pc count s few is =
-        let t = target_only form.named (begin + pc) (operand_at code pc) s.target is.target in
-        let counted : ltb count 1000000 ≡ true = lt-ltb _ _ few in
-        rw (t, counted) (ap (λ (x : Site). Ok x) (made_is form pc s is.pc_is is.kind_is))
-
-    -- ---- the sites of an instruction
+    -- ---- the index of an instruction
 
     -- the two bytes after an opcode are the spelling of their number
     record FoundOperand (pc a b : ℕ) (more : List ℕ) : Type 0 where
@@ -206,6 +207,20 @@ module _ (pool : Entries) (constants : List Constant) (holds : Holds pool consta
         let spelled : a ∷ b ∷ more ≡ u2 index ++ more = ap (λ (l : List ℕ). l ++ more) (sym (two_spelled a b la lb)) in
         record { index = index; few = few; spelled = spelled; read_is = operand_for pc op (a ∷ b ∷ more) index more rest after few spelled fits s }
 
+    -- an opcode with two bytes or more has an index, and what it means has it too
+    with_index : {X : Type 0} (Means : ℕ → X → Type 0) → IsBytes code → (pc op : ℕ) (operands rest : List ℕ) (after : ℕ) (x : X) → IsLong op → FitsAt pc (Plain op operands) → Stands code pc (op ∷ (operands ++ rest)) after → Means (operand_at code pc) x → HasIndex Means operands x
+    with_index Means bytes pc op [] rest after x long fits s is = let bad = sym long.1 ∙ fits in absurd cc
+    with_index Means bytes pc op (a ∷ []) rest after x long fits s is = let bad = sym long.1 ∙ fits in absurd cc
+    with_index Means bytes pc op (a ∷ b ∷ more) rest after x long fits s is =
+        let operand = found_operand bytes pc op a b more rest after fits s in
+        record { index = operand.index; more = more; few = operand.few; spelled = operand.spelled; means = subst (λ (n : ℕ). Means n x) operand.read_is is }
+
+    by_index : {X : Type 0} (Means : ℕ → X → Type 0) (pc op : ℕ) (operands rest : List ℕ) (after : ℕ) (x : X) → FitsAt pc (Plain op operands) → Stands code pc (op ∷ (operands ++ rest)) after → HasIndex Means operands x → Means (operand_at code pc) x
+    by_index Means pc op operands rest after x fits s has =
+        subst (λ (n : ℕ). Means n x) (sym (operand_for pc op operands has.index has.more rest after has.few has.spelled fits s)) has.means
+
+    -- ---- what an instruction has
+
     abbrev Few : ℕ → List Site → Type 0
     Few count sites = count + length sites ≤ 1000000
 
@@ -213,90 +228,111 @@ module _ (pool : Entries) (constants : List Constant) (holds : Holds pool consta
         → AreFormed constants o pc operands here × Few count here
     formed_found bytes pc op count operands rest after here None is fits s le e =
         subst (λ (l : List Site). (l ≡ []) × Few count l) (ok_is [] here e) (refl, omega arith)
-    formed_found bytes pc op count [] rest after here (Some form) is fits s le e =
-        let bad = sym (called_long op form is).1 ∙ fits in absurd cc
-    formed_found bytes pc op count (a ∷ []) rest after here (Some form) is fits s le e =
-        let bad = sym (called_long op form is).1 ∙ fits in absurd cc
-    formed_found bytes pc op count (a ∷ b ∷ more) rest after here (Some form) is fits s le e =
-        let found = bind_ok (site_at pool begin code form pc count) _ here e in
-        let site = site_found form pc count found.0 found.1 in
-        let operand = found_operand bytes pc op a b more rest after fits s in
-        let with_index : IsSiteWith constants form pc (a ∷ b ∷ more) found.0 = record { index = operand.index; more = more; few = operand.few; spelled = operand.spelled; site = subst (λ (n : ℕ). IsSite constants form pc n found.0) operand.read_is site.0 } in
+    formed_found bytes pc op count operands rest after here (Some form) is fits s le e =
+        let found = bind_ok (site_of pool form (begin + pc) pc (operand_at code pc) count) _ here e in
+        let site = site_found form (begin + pc) pc (operand_at code pc) count found.0 found.1 in
+        let has = with_index (IsSite constants form pc) bytes pc op operands rest after found.0 (called_long op form is) fits s site.0 in
         let lt = site.1 in
-        subst (λ (l : List Site). AreFormed constants (Some form) pc (a ∷ b ∷ more) l × Few count l) (ok_is (found.0 ∷ []) here found.2) ((found.0, refl, with_index), omega arith)
+        subst (λ (l : List Site). AreFormed constants (Some form) pc operands l × Few count l) (ok_is (found.0 ∷ []) here found.2) ((found.0, refl, has), omega arith)
 
     formed_only : (pc op count : ℕ) (operands rest : List ℕ) (after : ℕ) (here : List Site) (o : Option SiteForm) → FitsAt pc (Plain op operands) → Stands code pc (op ∷ (operands ++ rest)) after → Few count here → AreFormed constants o pc operands here → sites_by pool begin code o pc count ≡ Ok here
     formed_only pc op count operands rest after here None fits s few is = ap (λ (l : List Site). Ok l) (sym is)
     formed_only pc op count operands rest after here (Some form) fits s few is =
-        let site = is.2 in
-        let operand = operand_for pc op operands site.index site.more rest after site.few site.spelled fits s in
         let one : length here ≡ 1 = ap length is.1 in
         let lt : count < 1000000 = omega arith in
-        let read = site_only form pc count is.0 lt (subst (λ (n : ℕ). IsSite constants form pc n is.0) (sym operand) site.site) in
+        let read = site_only form (begin + pc) pc (operand_at code pc) count is.0 lt (by_index (IsSite constants form pc) pc op operands rest after is.0 fits s is.2) in
         rw read (ap (λ (l : List Site). Ok l) (sym is.1))
 
+    abbrev call : ℕ → ℕ → DynamicCall
+    call pc n = record { pc = pc; bootstrap = n }
+
+    dynamic_calls_found : IsBytes code → (pc op : ℕ) (operands rest : List ℕ) (after : ℕ) (here : List DynamicCall) (b : Bool) → is_dynamic op ≡ b → FitsAt pc (Plain op operands) → Stands code pc (op ∷ (operands ++ rest)) after → calls_by pool begin code b pc ≡ Ok here
+        → AreDynamic constants b pc operands here
+    dynamic_calls_found bytes pc op operands rest after here false is fits s e = sym (ok_is [] here e)
+    dynamic_calls_found bytes pc op operands rest after here true is fits s e =
+        let found = bind_ok (at_place (begin + pc) (operand_at code pc) (dynamic_of pool (operand_at code pc))) _ here e in
+        let named = dynamic_found pool constants holds (operand_at code pc) found.0 (at_ok (begin + pc) (operand_at code pc) (dynamic_of pool (operand_at code pc)) found.0 found.1) in
+        let has = with_index (IsCall constants pc) bytes pc op operands rest after (call pc found.0) (dynamic_long op is) fits s (record { pc_is = refl; named = named }) in
+        subst (λ (l : List DynamicCall). AreDynamic constants true pc operands l) (ok_is (call pc found.0 ∷ []) here found.2) (call pc found.0, refl, has)
+
+    call_is : (pc : ℕ) (c : DynamicCall) → c.pc ≡ pc → call pc c.bootstrap ≡ c
+    call_is pc c p = ap (λ (n : ℕ). call n c.bootstrap) (sym p)
+
+    dynamic_calls_only : (pc op : ℕ) (operands rest : List ℕ) (after : ℕ) (here : List DynamicCall) (b : Bool) → FitsAt pc (Plain op operands) → Stands code pc (op ∷ (operands ++ rest)) after → AreDynamic constants b pc operands here → calls_by pool begin code b pc ≡ Ok here
+    dynamic_calls_only pc op operands rest after here false fits s is = ap (λ (l : List DynamicCall). Ok l) (sym is)
+    dynamic_calls_only pc op operands rest after here true fits s is =
+        let has = by_index (IsCall constants pc) pc op operands rest after is.0 fits s is.2 in
+        let read = dynamic_only pool constants holds (operand_at code pc) is.0.bootstrap has.named in
+        rw read (ap (λ (c : DynamicCall). Ok (c ∷ [])) (call_is pc is.0 has.pc_is) ∙ ap (λ (l : List DynamicCall). Ok l) (sym is.1))
+
+    abbrev made_found : List Site → List DynamicCall → Found
+    made_found sites calls = record { sites = sites; calls = calls }
+
     -- what is read at an opcode
-    by_opcode : (pc op count : ℕ) (here : List Site) → get_or code pc 0 ≡ op → sites_at pool begin code pc count ≡ Ok here → (is_unread op ≡ false) × (sites_by pool begin code (site_form op) pc count ≡ Ok here)
-    unfolding sites_at
-    by_opcode pc op count here is e =
-        let a = bind_ok (unless_broken (not (is_unread (get_or code pc 0))) (fault (begin + pc) 0 NotBuilt)) _ here e in
-        (ap is_unread (sym is) ∙ not_true _ (kept_ok _ _ a.0 a.1), subst (λ (n : ℕ). sites_by pool begin code (site_form n) pc count ≡ Ok here) is a.2)
-      where
-        not_true : (b : Bool) → not b ≡ true → b ≡ false
-        not_true true e = absurd cc
-        not_true false e = refl
+    record ReadAt (op pc count : ℕ) (x : Found) : Type 0 where
+      sites_are : sites_by pool begin code (site_form op) pc count ≡ Ok x.sites
+      calls_are : calls_by pool begin code (is_dynamic op) pc ≡ Ok x.calls
 
-    at_opcode_only : (pc op count : ℕ) (here : List Site) → get_or code pc 0 ≡ op → is_unread op ≡ false → sites_by pool begin code (site_form op) pc count ≡ Ok here → sites_at pool begin code pc count ≡ Ok here
-    unfolding sites_at
-    at_opcode_only pc op count here is read e = rw (is, read, e) refl
+    by_opcode : (pc op count : ℕ) (x : Found) → get_or code pc 0 ≡ op → found_at pool begin code pc count ≡ Ok x → ReadAt op pc count x
+    unfolding found_at
+    by_opcode pc op count x is e =
+        let a = bind_ok (sites_by pool begin code (site_form (get_or code pc 0)) pc count) _ x e in
+        let b = bind_ok (calls_by pool begin code (is_dynamic (get_or code pc 0)) pc) _ x a.2 in
+        subst (λ (n : ℕ). ReadAt n pc count x) is (subst (λ (y : Found). ReadAt (get_or code pc 0) pc count y) (ok_is (made_found a.0 b.0) x b.2) (record { sites_are = a.1; calls_are = b.1 }))
 
-    no_sites : (pc op count : ℕ) (f : Form) (here : List Site) → get_or code pc 0 ≡ op → IsShortForm f → form_of op ≡ Some f → count ≤ 1000000 → sites_at pool begin code pc count ≡ Ok here → (here ≡ []) × Few count here
-    no_sites pc op count f here at short is le e =
-        let r = by_opcode pc op count here at e in
-        let none = subst (λ (o : Option SiteForm). sites_by pool begin code o pc count ≡ Ok here) (no_call op f short is) r.1 in
-        subst (λ (l : List Site). (l ≡ []) × Few count l) (ok_is [] here none) (refl, omega arith)
+    at_opcode_only : (pc op count : ℕ) (x : Found) → get_or code pc 0 ≡ op → ReadAt op pc count x → found_at pool begin code pc count ≡ Ok x
+    unfolding found_at
+    at_opcode_only pc op count x is r = rw (is, r.sites_are, r.calls_are) refl
 
-    none_only : (pc op count : ℕ) (f : Form) (here : List Site) → get_or code pc 0 ≡ op → IsShortForm f → form_of op ≡ Some f → here ≡ [] → sites_at pool begin code pc count ≡ Ok here
-    none_only pc op count f here at short is none =
-        at_opcode_only pc op count here at (all_read op f short is) (rw (no_call op f short is) (ap (λ (l : List Site). Ok l) (sym none)))
+    nothing_found : (pc op count : ℕ) (f : Form) (x : Found) → get_or code pc 0 ≡ op → IsShortForm f → form_of op ≡ Some f → count ≤ 1000000 → found_at pool begin code pc count ≡ Ok x → (x ≡ nothing) × Few count x.sites
+    nothing_found pc op count f x at short is le e =
+        let r = by_opcode pc op count x at e in
+        let sites : [] ≡ x.sites = ok_is [] x.sites (subst (λ (o : Option SiteForm). sites_by pool begin code o pc count ≡ Ok x.sites) (no_call op f short is) r.sites_are) in
+        let calls : [] ≡ x.calls = ok_is [] x.calls (subst (λ (b : Bool). calls_by pool begin code b pc ≡ Ok x.calls) (no_dynamic op f short is) r.calls_are) in
+        (ap (λ (l : List Site). made_found l x.calls) (sym sites) ∙ ap (λ (l : List DynamicCall). made_found [] l) (sym calls), subst (λ (l : List Site). Few count l) sites (omega arith))
 
-    pub instruction_found : IsBytes code → (pc count : ℕ) (i : Instruction) (rest : List ℕ) (after : ℕ) (here : List Site) → FitsAt pc i → Stands code pc (instruction i ++ rest) after → count ≤ 1000000 → sites_at pool begin code pc count ≡ Ok here → AreSitesOf constants pc i here × Few count here
-    instruction_found bytes pc count (Plain op operands) rest after here fits s le e =
-        let r = by_opcode pc op count here (opcode_is code pc op (operands ++ rest) after s) e in
-        let f = formed_found bytes pc op count operands rest after here (site_form op) refl fits s le r.1 in
-        ((r.0, f.0), f.1)
-    instruction_found bytes pc count (TableSwitch op pad default low high offsets) rest after here fits s le e =
-        no_sites pc op count Table here (opcode_is code pc op _ after s) tt fits.0 le e
-    instruction_found bytes pc count (LookupSwitch op pad default pairs_count pairs) rest after here fits s le e =
-        no_sites pc op count Lookup here (opcode_is code pc op _ after s) tt fits.0 le e
-    instruction_found bytes pc count (Widened op inner operands) rest after here fits s le e =
-        no_sites pc op count Wide here (opcode_is code pc op _ after s) tt fits.0 le e
+    nothing_only : (pc op count : ℕ) (f : Form) (x : Found) → get_or code pc 0 ≡ op → IsShortForm f → form_of op ≡ Some f → x ≡ nothing → found_at pool begin code pc count ≡ Ok x
+    nothing_only pc op count f x at short is none =
+        subst (λ (y : Found). found_at pool begin code pc count ≡ Ok y) (sym none) (at_opcode_only pc op count nothing at (record { sites_are = rw (no_call op f short is) refl; calls_are = rw (no_dynamic op f short is) refl }))
 
-    pub instruction_only : (pc count : ℕ) (i : Instruction) (rest : List ℕ) (after : ℕ) (here : List Site) → FitsAt pc i → Stands code pc (instruction i ++ rest) after → Few count here → AreSitesOf constants pc i here → sites_at pool begin code pc count ≡ Ok here
-    instruction_only pc count (Plain op operands) rest after here fits s few is =
-        at_opcode_only pc op count here (opcode_is code pc op (operands ++ rest) after s) is.0 (formed_only pc op count operands rest after here (site_form op) fits s few is.1)
-    instruction_only pc count (TableSwitch op pad default low high offsets) rest after here fits s few is =
-        none_only pc op count Table here (opcode_is code pc op _ after s) tt fits.0 is
-    instruction_only pc count (LookupSwitch op pad default pairs_count pairs) rest after here fits s few is =
-        none_only pc op count Lookup here (opcode_is code pc op _ after s) tt fits.0 is
-    instruction_only pc count (Widened op inner operands) rest after here fits s few is =
-        none_only pc op count Wide here (opcode_is code pc op _ after s) tt fits.0 is
+    instruction_found : IsBytes code → (pc count : ℕ) (i : Instruction) (rest : List ℕ) (after : ℕ) (x : Found) → FitsAt pc i → Stands code pc (instruction i ++ rest) after → count ≤ 1000000 → found_at pool begin code pc count ≡ Ok x → AreOf constants pc i x × Few count x.sites
+    instruction_found bytes pc count (Plain op operands) rest after x fits s le e =
+        let r = by_opcode pc op count x (opcode_is code pc op (operands ++ rest) after s) e in
+        let f = formed_found bytes pc op count operands rest after x.sites (site_form op) refl fits s le r.sites_are in
+        ((f.0, dynamic_calls_found bytes pc op operands rest after x.calls (is_dynamic op) refl fits s r.calls_are), f.1)
+    instruction_found bytes pc count (TableSwitch op pad default low high offsets) rest after x fits s le e =
+        nothing_found pc op count Table x (opcode_is code pc op _ after s) tt fits.0 le e
+    instruction_found bytes pc count (LookupSwitch op pad default pairs_count pairs) rest after x fits s le e =
+        nothing_found pc op count Lookup x (opcode_is code pc op _ after s) tt fits.0 le e
+    instruction_found bytes pc count (Widened op inner operands) rest after x fits s le e =
+        nothing_found pc op count Wide x (opcode_is code pc op _ after s) tt fits.0 le e
 
-    -- ---- the sites of the whole code
-    pub record FoundSites (pc count : ℕ) (sites : List Site) : Type 0 where
+    instruction_only : (pc count : ℕ) (i : Instruction) (rest : List ℕ) (after : ℕ) (x : Found) → FitsAt pc i → Stands code pc (instruction i ++ rest) after → Few count x.sites → AreOf constants pc i x → found_at pool begin code pc count ≡ Ok x
+    instruction_only pc count (Plain op operands) rest after x fits s few is =
+        at_opcode_only pc op count x (opcode_is code pc op (operands ++ rest) after s)
+        (record { sites_are = formed_only pc op count operands rest after x.sites (site_form op) fits s few is.0; calls_are = dynamic_calls_only pc op operands rest after x.calls (is_dynamic op) fits s is.1 })
+    instruction_only pc count (TableSwitch op pad default low high offsets) rest after x fits s few is =
+        nothing_only pc op count Table x (opcode_is code pc op _ after s) tt fits.0 is
+    instruction_only pc count (LookupSwitch op pad default pairs_count pairs) rest after x fits s few is =
+        nothing_only pc op count Lookup x (opcode_is code pc op _ after s) tt fits.0 is
+    instruction_only pc count (Widened op inner operands) rest after x fits s few is =
+        nothing_only pc op count Wide x (opcode_is code pc op _ after s) tt fits.0 is
+
+    -- ---- what the whole code has
+    pub record FoundAll (pc count : ℕ) (x : Found) : Type 0 where
       pub instrs : List Instruction
       pub stands : Stands code pc (flat_map instruction instrs) (length code)
       pub fits : FitFrom pc instrs
-      pub sites_are : AreSites constants pc instrs sites
-      pub few : count + length sites ≤ 1000000
+      pub are : AreFound constants pc instrs x
+      pub few : count + length x.sites ≤ 1000000
 
     opcode_ok : {A : Type 0} (at : ℕ) (r : Result A CodeRule) (x : A) → at_opcode at r ≡ Ok x → r ≡ Ok x
     opcode_ok at (Ok y) x e = ap (λ (z : _). Ok z) (ok_is y x e)
     opcode_ok at (Err rule) x e = absurd cc
 
-    -- the sites of an instruction, and of those after it
-    sites_more : IsBytes code → (pc count next : ℕ) (here others : List Site) → count ≤ 1000000 → FoundAt code pc next → sites_at pool begin code pc count ≡ Ok here → (count + length here ≤ 1000000 → FoundSites next (count + length here) others) → FoundSites pc count (here ++ others)
-    sites_more bytes pc count next here others le first e rest =
+    -- what an instruction has, and those after it
+    found_more : IsBytes code → (pc count next : ℕ) (here others : Found) → count ≤ 1000000 → FoundAt code pc next → found_at pool begin code pc count ≡ Ok here → (count + length here.sites ≤ 1000000 → FoundAll next (count + length here.sites) others) → FoundAll pc count (both here others)
+    found_more bytes pc count next here others le first e rest =
         let i = first.instr in
         let whole = subst (λ (l : List ℕ). Stands code pc l next) (sym (append-nil (instruction i))) first.stands in
         let found = instruction_found bytes pc count i [] next here first.fits whole le e in
@@ -306,116 +342,116 @@ module _ (pool : Entries) (constants : List Constant) (holds : Holds pool consta
           instrs = i ∷ below.instrs;
           stands = stands_first code pc next (length code) i below.instrs first.stands below.stands;
           fits = (first.fits, subst (λ (n : ℕ). FitFrom n below.instrs) at below.fits);
-          sites_are = (here, others, refl, found.0, subst (λ (n : ℕ). AreSites constants n below.instrs others) at below.sites_are);
-          few = (let few = below.few in omega (arith, few, length-append here others));
+          are = (here, others, refl, found.0, subst (λ (n : ℕ). AreFound constants n below.instrs others) at below.are);
+          few = (let few = below.few in omega (arith, few, length-append here.sites others.sites));
         }
 
-    pub sites_found : IsBytes code → (fuel pc count : ℕ) (sites : List Site) → count ≤ 1000000 → sites_from pool begin code fuel pc count ≡ Ok sites → FoundSites pc count sites
-    unfolding sites_from
-    sites_found bytes zero pc count sites le e = absurd cc
-    sites_found bytes (suc fuel) pc count sites le e =
+    pub all_found : IsBytes code → (fuel pc count : ℕ) (x : Found) → count ≤ 1000000 → found_from pool begin code fuel pc count ≡ Ok x → FoundAll pc count x
+    unfolding found_from
+    all_found bytes zero pc count x le e = absurd cc
+    all_found bytes (suc fuel) pc count x le e =
         elim (chosen (eqb (length code) pc) _ _ _ e) [
           | inl end ↦ (
               let here : length code ≡ pc = eqb-true _ _ end.0 in
               let stands = subst (λ (n : ℕ). Stands code n [] (length code)) here (Stands-none code (length code) (omega arith)) in
-              subst (λ (l : List Site). FoundSites pc count l) (ok_is [] sites end.1) (record { instrs = []; stands = stands; fits = tt; sites_are = refl; few = omega arith })
+              subst (λ (y : Found). FoundAll pc count y) (ok_is nothing x end.1) (record { instrs = []; stands = stands; fits = tt; are = refl; few = omega arith })
               )
           | inr more ↦ (
-              let a = bind_ok (at_opcode (begin + pc) (next_at code pc)) _ sites more.1 in
-              let b = bind_ok (sites_at pool begin code pc count) _ sites a.2 in
-              let c = bind_ok (sites_from pool begin code fuel a.0 (count + length b.0)) _ sites b.2 in
+              let a = bind_ok (at_opcode (begin + pc) (next_at code pc)) _ x more.1 in
+              let b = bind_ok (found_at pool begin code pc count) _ x a.2 in
+              let c = bind_ok (found_from pool begin code fuel a.0 (count + length b.0.sites)) _ x b.2 in
               let first = next_found code bytes pc a.0 (opcode_ok (begin + pc) (next_at code pc) a.0 a.1) in
-              subst (λ (l : List Site). FoundSites pc count l) (ok_is (b.0 ++ c.0) sites c.2) (sites_more bytes pc count a.0 b.0 c.0 le first b.1 (λ few. sites_found bytes fuel a.0 (count + length b.0) c.0 few c.1))
+              subst (λ (y : Found). FoundAll pc count y) (ok_is (both b.0 c.0) x c.2) (found_more bytes pc count a.0 b.0 c.0 le first b.1 (λ few. all_found bytes fuel a.0 (count + length b.0.sites) c.0 few c.1))
               )
         ]
 
-    pub sites_only : (fuel pc count : ℕ) (is : List Instruction) (sites : List Site) → length code < fuel + pc → FitFrom pc is → AreSites constants pc is sites → count + length sites ≤ 1000000 → Stands code pc (flat_map instruction is) (length code) → sites_from pool begin code fuel pc count ≡ Ok sites
-    unfolding sites_from
-    sites_only zero pc count is sites lt fit are few s = let within = s.ends in absurd (omega arith)
-    sites_only (suc fuel) pc count [] sites lt fit are few s =
+    pub all_only : (fuel pc count : ℕ) (is : List Instruction) (x : Found) → length code < fuel + pc → FitFrom pc is → AreFound constants pc is x → count + length x.sites ≤ 1000000 → Stands code pc (flat_map instruction is) (length code) → found_from pool begin code fuel pc count ≡ Ok x
+    unfolding found_from
+    all_only zero pc count is x lt fit are few s = let within = s.ends in absurd (omega arith)
+    all_only (suc fuel) pc count [] x lt fit are few s =
         let here : eqb (length code) pc ≡ true = (let e = s.ends in grind (arith, nat_tests)) in
-        rw here (ap (λ (l : List Site). Ok l) (sym are))
-    sites_only (suc fuel) pc count (i ∷ is) sites lt fit (here, others, joined, at, rest) few s =
+        rw here (ap (λ (y : Found). Ok y) (sym are))
+    all_only (suc fuel) pc count (i ∷ is) x lt fit (here, others, joined, at, rest) few s =
         let stands = subst (λ (l : List ℕ). Stands code pc l (length code)) (flat_map-cons instruction i is) s in
         let some = some_byte i in
         let after = Stands-back (instruction i) (flat_map instruction is) stands in
         let more : eqb (length code) pc ≡ false = not_end code pc (length (instruction i)) (length (flat_map instruction is)) (length code) some after.ends in
         let next = next_only code pc i (flat_map instruction is) (length code) fit.0 stands in
-        let many : length sites ≡ length here + length others = ap length joined ∙ length-append here others in
+        let many : length x.sites ≡ length here.sites + length others.sites = ap (λ (y : Found). length y.sites) joined ∙ length-append here.sites others.sites in
         let first = instruction_only pc count i (flat_map instruction is) (length code) here fit.0 stands (omega arith) at in
         let below : length code < fuel + (pc + length (instruction i)) = further code (length code) fuel pc (length (instruction i)) lt some in
-        let last = sites_only fuel (pc + length (instruction i)) (count + length here) is others below fit.1 rest (omega arith) after in
-        rw (more, next, first, last) (ap (λ (l : List Site). Ok l) (sym joined))
+        let last = all_only fuel (pc + length (instruction i)) (count + length here.sites) is others below fit.1 rest (omega arith) after in
+        rw (more, next, first, last) (ap (λ (y : Found). Ok y) (sym joined))
 
     -- ---- the first fault
 
-    -- an instruction breaks a rule, or its site does; all before it, with their sites, are spelled by the grammar
+    -- an instruction breaks a rule, or what it has does; all before it is spelled by the grammar
     pub record BrokenFrom (pc count : ℕ) (f : ClassFault) : Type 0 where
       pub before : List Instruction
-      pub sites : List Site
+      pub found : Found
       pub at : ℕ
       pub stands : Stands code pc (flat_map instruction before) at
       pub fits : FitFrom pc before
-      pub sites_are : AreSites constants pc before sites
-      pub few : count + length sites ≤ 1000000
+      pub are : AreFound constants pc before found
+      pub few : count + length found.sites ≤ 1000000
       pub within : at < length code
-      pub broken : (at_opcode (begin + at) (next_at code at) >>= λ next. sites_at pool begin code at (count + length sites)) ≡ Err f
+      pub broken : (at_opcode (begin + at) (next_at code at) >>= λ next. found_at pool begin code at (count + length found.sites)) ≡ Err f
 
-    at_once : (pc count : ℕ) (f : ClassFault) → count ≤ 1000000 → pc < length code → (at_opcode (begin + pc) (next_at code pc) >>= λ next. sites_at pool begin code pc count) ≡ Err f → BrokenFrom pc count f
+    at_once : (pc count : ℕ) (f : ClassFault) → count ≤ 1000000 → pc < length code → (at_opcode (begin + pc) (next_at code pc) >>= λ next. found_at pool begin code pc count) ≡ Err f → BrokenFrom pc count f
     at_once pc count f le within e = record {
       before = [];
-      sites = [];
+      found = nothing;
       at = pc;
       stands = Stands-none code pc (omega arith);
       fits = tt;
-      sites_are = refl;
+      are = refl;
       few = omega arith;
       within = within;
-      broken = (let none : count ≡ count + 0 = omega arith in subst (λ (n : ℕ). (at_opcode (begin + pc) (next_at code pc) >>= λ next. sites_at pool begin code pc n) ≡ Err f) none e);
+      broken = (let none : count ≡ count + 0 = omega arith in subst (λ (n : ℕ). (at_opcode (begin + pc) (next_at code pc) >>= λ next. found_at pool begin code pc n) ≡ Err f) none e);
     }
 
-    later : IsBytes code → (pc count next : ℕ) (here : List Site) (f : ClassFault) → count ≤ 1000000 → FoundAt code pc next → sites_at pool begin code pc count ≡ Ok here → (count + length here ≤ 1000000 → BrokenFrom next (count + length here) f) → BrokenFrom pc count f
+    later : IsBytes code → (pc count next : ℕ) (here : Found) (f : ClassFault) → count ≤ 1000000 → FoundAt code pc next → found_at pool begin code pc count ≡ Ok here → (count + length here.sites ≤ 1000000 → BrokenFrom next (count + length here.sites) f) → BrokenFrom pc count f
     later bytes pc count next here f le first e rest =
         let i = first.instr in
         let whole = subst (λ (l : List ℕ). Stands code pc l next) (sym (append-nil (instruction i))) first.stands in
         let found = instruction_found bytes pc count i [] next here first.fits whole le e in
         let below = rest found.1 in
         let at : next ≡ pc + length (instruction i) = first.stands.ends in
-        let many : count + length here + length below.sites ≡ count + length (here ++ below.sites) = omega (arith, length-append here below.sites) in
+        let many : count + length here.sites + length below.found.sites ≡ count + length (here.sites ++ below.found.sites) = omega (arith, length-append here.sites below.found.sites) in
         record {
           before = i ∷ below.before;
-          sites = here ++ below.sites;
+          found = both here below.found;
           at = below.at;
           stands = stands_first code pc next below.at i below.before first.stands below.stands;
           fits = (first.fits, subst (λ (n : ℕ). FitFrom n below.before) at below.fits);
-          sites_are = (here, below.sites, refl, found.0, subst (λ (n : ℕ). AreSites constants n below.before below.sites) at below.sites_are);
+          are = (here, below.found, refl, found.0, subst (λ (n : ℕ). AreFound constants n below.before below.found) at below.are);
           few = subst (λ (n : ℕ). n ≤ 1000000) many below.few;
           within = below.within;
-          broken = subst (λ (n : ℕ). (at_opcode (begin + below.at) (next_at code below.at) >>= λ next. sites_at pool begin code below.at n) ≡ Err f) many below.broken;
+          broken = subst (λ (n : ℕ). (at_opcode (begin + below.at) (next_at code below.at) >>= λ next. found_at pool begin code below.at n) ≡ Err f) many below.broken;
         }
 
     before_end : (len pc : ℕ) → pc ≤ len → eqb len pc ≡ false → pc < len
     before_end len pc le e = grind (arith, nat_tests)
 
-    pub sites_broken : IsBytes code → (fuel pc count : ℕ) (f : ClassFault) → length code < fuel + pc → pc ≤ length code → count ≤ 1000000 → sites_from pool begin code fuel pc count ≡ Err f → BrokenFrom pc count f
-    unfolding sites_from
-    sites_broken bytes zero pc count f lt le few e = absurd (omega arith)
-    sites_broken bytes (suc fuel) pc count f lt le few e =
+    pub all_broken : IsBytes code → (fuel pc count : ℕ) (f : ClassFault) → length code < fuel + pc → pc ≤ length code → count ≤ 1000000 → found_from pool begin code fuel pc count ≡ Err f → BrokenFrom pc count f
+    unfolding found_from
+    all_broken bytes zero pc count f lt le few e = absurd (omega arith)
+    all_broken bytes (suc fuel) pc count f lt le few e =
         elim (chosen (eqb (length code) pc) _ _ _ e) [
-          | inl end ↦ absurd (ok_or_err [] f end.1)
+          | inl end ↦ absurd (ok_or_err nothing f end.1)
           | inr more ↦ elim (bind_err (at_opcode (begin + pc) (next_at code pc)) _ f more.1) [
             | inl here ↦ at_once pc count f few (before_end (length code) pc le more.0) (rw here refl)
-            | inr there ↦ elim (bind_err (sites_at pool begin code pc count) _ f there.2) [
+            | inr there ↦ elim (bind_err (found_at pool begin code pc count) _ f there.2) [
               | inl site ↦ at_once pc count f few (before_end (length code) pc le more.0) (rw (there.1, site) refl)
-              | inr found ↦ elim (bind_err (sites_from pool begin code fuel there.0 (count + length found.0)) _ f found.2) [
+              | inr found ↦ elim (bind_err (found_from pool begin code fuel there.0 (count + length found.0.sites)) _ f found.2) [
                 | inl below ↦ (
                     let first = next_found code bytes pc there.0 (opcode_ok (begin + pc) (next_at code pc) there.0 there.1) in
                     let some = some_byte first.instr in
                     let next : there.0 ≡ pc + length (instruction first.instr) = first.stands.ends in
                     let still : length code < fuel + there.0 = subst (λ (n : ℕ). length code < fuel + n) (sym next) (further code (length code) fuel pc (length (instruction first.instr)) lt some) in
-                    later bytes pc count there.0 found.0 f few first found.1 (λ less. sites_broken bytes fuel there.0 (count + length found.0) f still first.stands.within less below)
+                    later bytes pc count there.0 found.0 f few first found.1 (λ less. all_broken bytes fuel there.0 (count + length found.0.sites) f still first.stands.within less below)
                     )
-                | inr none ↦ absurd (ok_or_err (found.0 ++ none.0) f none.2)
+                | inr none ↦ absurd (ok_or_err (both found.0 none.0) f none.2)
               ]
             ]
           ]

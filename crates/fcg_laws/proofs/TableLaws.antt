@@ -38,10 +38,10 @@ module _ (bytes : List ℕ) where
   pool_found fits at x e =
       let whole : List (Option Placed) → Entries = λ (xs : List (Option Placed)). record { bytes = bytes; slots = xs } in
       let begun : Next = record { at = at + 2; second = false } in
-      let a = bind_ok (u2_at bytes at 0) _ x e in
+      let a = bind_ok (u2_at bytes at) _ x e in
       let b = bind_ok (rows (slot_at bytes) (a.0 - 1) 1 begun) _ x a.2 in
       let c = bind_ok (each (slot_kept (whole b.0.0)) 1 b.0.0) _ x b.2 in
-      let count = u2_found bytes at 0 a.0 fits a.1 in
+      let count = u2_found bytes at a.0 fits a.1 in
       let s = slots_found bytes fits (a.0 - 1) 1 (at + 2) false b.0 count.0.within b.1 in
       let many = s.many in
       let ended = s.room (whole b.0.0) (ap (λ (n : ℕ). 1 + n) (sym many)) (λ is. absurd cc) c.1 in
@@ -76,7 +76,7 @@ module _ (bytes : List ℕ) where
   pub pool_only : (at : ℕ) (constants : List Constant) (rest : List ℕ) (after : ℕ) → IsPool constants → Stands bytes at (u2 (1 + length (slots constants)) ++ (flat_map constant constants ++ rest)) after → ReadPool at constants rest after
   unfolding pool_at
   pool_only at constants rest after is s =
-      let n = u2_only bytes at 0 (1 + length (slots constants)) (flat_map constant constants ++ rest) after is.few s in
+      let n = u2_only bytes at (1 + length (slots constants)) (flat_map constant constants ++ rest) after is.few s in
       let r = slots_only bytes constants 1 (at + 2) rest after is.fit n.1 in
       let pool : Entries = record { bytes = bytes; slots = r.values } in
       let kept = each_only pool constants r.same is.named in

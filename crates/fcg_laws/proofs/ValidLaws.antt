@@ -1,17 +1,20 @@
 -- The view of a class file is valid.
-use Rattle.std.proofs.Common.{◌≡◌, ℕ, zero, suc, ◌^◌, ◌<◌, List, [], ◌∷◌, ◌++◌, length, Option, Some, None, refl, sym, ap, subst, inl, inr, ◌+◌, arith}
+use Rattle.std.proofs.Common.{◌≡◌, ℕ, zero, suc, ◌^◌, ◌<◌, Bool, true, false, cond, ltb, List, [], ◌∷◌, ◌++◌, length, Option, Some, None, refl, sym, ap, subst, inl, inr, ◌+◌, arith}
+use Rattle.std.specs.Prelude.{codes}
 use Rattle.std.specs.List.{All, AllByRecursion, AllZip}
+use Rattle.std.proofs.lemmas.List.Concat.{flat_map-cons}
+use Rattle.fcg_views.specs.declared.code.DynamicCall.{DynamicCall}
 use Rattle.fcg_views.specs.declared.view.View.{View}
 use Rattle.fcg_views.specs.declared.view.Field.{Field}
 use Rattle.fcg_views.specs.declared.view.Method.{Method}
 use Rattle.fcg_views.specs.declared.view.Ref.{Ref}
 use Rattle.fcg_views.specs.declared.view.Site.{Site}
-use Rattle.fcg_views.specs.ClassFile.{Constant, Utf8, slots, Attribute, MemberInfo, ClassFile}
+use Rattle.fcg_views.specs.ClassFile as file
+use Rattle.fcg_views.specs.ClassFile.{Constant, Utf8, Named, Pair, Handle, slots, Attribute, BootstrapMethod, MemberInfo, ClassFile}
 use Rattle.fcg_views.specs.Constants.{NamesUtf8, NamesReference}
-use Rattle.fcg_views.specs.Reads.{NamesType, NamesSuper, Fits, HasSites, IsFieldOf, IsMethodOf, IsViewOf, Reads}
+use Rattle.fcg_views.specs.Reads.{NamesType, NamesSuper, Fits, HasOne, SaysCode, IsFieldOf, IsMethodOf, IsViewOf, Reads}
 use Rattle.fcg_views.specs.Instructions.{Instruction, Plain, TableSwitch, LookupSwitch, Widened, instruction}
-use Rattle.fcg_views.specs.Sites as sites
-use Rattle.fcg_views.specs.Sites.{Named, SiteForm, site_form, IsNamed, IsSite, AreFormed, AreSitesOf, AreSites}
+use Rattle.fcg_views.specs.Sites.{Target, ToMethod, ToField, ToType, SiteForm, site_form, handle_form, IsTarget, IsSite, AreFormed, Found, nothing, AreOf, AreFound, joined, AreFormedAt, AreOfConstant, AreOfIndex, AreOfCall, merged, AreSites}
 use Rattle.fcg_laws.proofs.KeptLaws.{at_slot, all_slots}
 use Rattle.fcg_laws.proofs.WordLaws.{methods_distinct}
 use Rattle.fcg_views.specs.Valid.{IsShort, IsTable, IsShortOrNone, HasShortNames, IsValidField, IsValidMethod, IsValid}
@@ -55,43 +58,88 @@ module _ (cs : List Constant) (fit : AllByRecursion Fits cs) where
   short_empty : (text : List ℕ) → text ≡ [] → IsShort text
   short_empty text is = let none : length text ≡ 0 = ap length is in omega arith
 
-  short_target : (named : Named) (index : ℕ) (r : Ref) → IsNamed cs named index r → IsShort r.owner × IsShort r.name × IsShort r.desc
-  short_target (sites.Named.Method tags) index r is = short_reference is.tag index r.owner r.name r.desc is.named
-  short_target sites.Named.Field index r is = short_reference is.tag index r.owner r.name r.desc is.named
-  short_target sites.Named.Class index r is = (short is.named.0 r.owner is.named.2, short_empty r.name is.name, short_empty r.desc is.desc)
+  short_target : (target : Target) (index : ℕ) (r : Ref) → IsTarget cs target index r → IsShort r.owner × IsShort r.name × IsShort r.desc
+  short_target (ToMethod tags) index r is = short_reference is.tag index r.owner r.name r.desc is.named
+  short_target ToField index r is = short_reference is.tag index r.owner r.name r.desc is.named
+  short_target ToType index r is = (short is.named.0 r.owner is.named.2, short_empty r.name is.name, short_empty r.desc is.desc)
 
   short_site : (form : SiteForm) (pc index : ℕ) (s : Site) → IsSite cs form pc index s → HasShortNames s
-  short_site form pc index s is = short_target form.named index s.target is.target
+  short_site form pc index s is = short_target form.target index s.target is.target_is
 
-  short_formed : (form : Option SiteForm) (pc : ℕ) (operands : List ℕ) (sites : List Site) → AreFormed cs form pc operands sites → AllByRecursion HasShortNames sites
-  short_formed None pc operands sites is = subst (λ (l : List Site). AllByRecursion HasShortNames l) (sym is) tt
-  short_formed (Some form) pc operands sites is = subst (λ (l : List Site). AllByRecursion HasShortNames l) (sym is.1) (short_site form pc is.2.index is.0 is.2.site, tt)
+  abbrev AllShort : List Site → Type 0
+  AllShort sites = AllByRecursion HasShortNames sites
 
-  short_none : (sites : List Site) → sites ≡ [] → AllByRecursion HasShortNames sites
-  short_none sites is = subst (λ (l : List Site). AllByRecursion HasShortNames l) (sym is) tt
+  short_formed : (form : Option SiteForm) (pc : ℕ) (operands : List ℕ) (sites : List Site) → AreFormed cs form pc operands sites → AllShort sites
+  short_formed None pc operands sites is = subst AllShort (sym is) tt
+  short_formed (Some form) pc operands sites is = subst AllShort (sym is.1) (short_site form pc is.2.index is.0 is.2.means, tt)
 
-  short_sites_of : (pc : ℕ) (i : Instruction) (sites : List Site) → AreSitesOf cs pc i sites → AllByRecursion HasShortNames sites
-  short_sites_of pc (Plain op operands) sites is = short_formed (site_form op) pc operands sites is.1
-  short_sites_of pc (TableSwitch op pad default low high offsets) sites is = short_none sites is
-  short_sites_of pc (LookupSwitch op pad default count pairs) sites is = short_none sites is
-  short_sites_of pc (Widened op inner operands) sites is = short_none sites is
+  short_none : (sites : List Site) → sites ≡ [] → AllShort sites
+  short_none sites is = subst AllShort (sym is) tt
 
-  both_short : (xs ys : List Site) → AllByRecursion HasShortNames xs → AllByRecursion HasShortNames ys → AllByRecursion HasShortNames (xs ++ ys)
+  short_nothing : (x : Found) → x ≡ nothing → AllShort x.sites
+  short_nothing x is = short_none x.sites (ap (λ (y : Found). y.sites) is)
+
+  short_of : (pc : ℕ) (i : Instruction) (x : Found) → AreOf cs pc i x → AllShort x.sites
+  short_of pc (Plain op operands) x is = short_formed (site_form op) pc operands x.sites is.0
+  short_of pc (TableSwitch op pad default low high offsets) x is = short_nothing x is
+  short_of pc (LookupSwitch op pad default count pairs) x is = short_nothing x is
+  short_of pc (Widened op inner operands) x is = short_nothing x is
+
+  both_short : (xs ys : List Site) → AllShort xs → AllShort ys → AllShort (xs ++ ys)
   both_short [] ys p q = q
   both_short (x ∷ xs) ys p q = (p.0, both_short xs ys p.1 q)
 
-  short_sites : (pc : ℕ) (is : List Instruction) (sites : List Site) → AreSites cs pc is sites → AllByRecursion HasShortNames sites
-  short_sites pc [] sites are = short_none sites are
-  short_sites pc (i ∷ is) sites (here, others, joined, at, rest) =
-      subst (λ (l : List Site). AllByRecursion HasShortNames l) (sym joined) (both_short here others (short_sites_of pc i here at) (short_sites (pc + length (instruction i)) is others rest))
+  short_found : (pc : ℕ) (is : List Instruction) (x : Found) → AreFound cs pc is x → AllShort x.sites
+  short_found pc [] x are = short_nothing x are
+  short_found pc (i ∷ is) x (here, others, joined, at, rest) =
+      subst (λ (y : Found). AllShort y.sites) (sym joined) (both_short here.sites others.sites (short_of pc i here at) (short_found (pc + length (instruction i)) is others rest))
 
-  short_in : (attributes : List Attribute) (sites : List Site) → HasSites cs attributes sites → AllByRecursion HasShortNames sites
-  short_in [] sites has = short_none sites has
-  short_in (a ∷ more) sites (inl (other, has)) = short_in more sites has
-  short_in (a ∷ more) sites (inr (code, others)) = short_sites 0 code.code_is.instructions sites code.code_is.sites_are
+  short_in : (attributes : List Attribute) (x : Found) → HasOne cs (codes "Code") (SaysCode cs) nothing attributes x → AllShort x.sites
+  short_in [] x has = short_nothing x has
+  short_in (a ∷ more) x (inl (other, has)) = short_in more x has
+  short_in (a ∷ more) x (inr (named, code, others)) = short_found 0 code.2.instructions x code.2.found
 
-  valid_method : (c : MemberInfo) (m : Method) → IsMethodOf cs c m → IsValidMethod m
-  valid_method c m is = (short c.name m.name is.declared.name_is, short c.desc m.desc is.declared.desc_is, each_all HasShortNames m.sites (short_in c.attributes m.sites is.sites))
+  -- handle sites
+  short_at : (form : Option SiteForm) (pc index : ℕ) (sites : List Site) → AreFormedAt cs form pc index sites → AllShort sites
+  short_at None pc index sites is = short_none sites is
+  short_at (Some form) pc index sites (s, is, site) = subst AllShort (sym is) (short_site form pc index s site, tt)
+
+  short_constant : (pc : ℕ) (c : Constant) (sites : List Site) → AreOfConstant cs pc c sites → AllShort sites
+  short_constant pc (Utf8 text) sites is = short_none sites is
+  short_constant pc (file.Plain tag bytes) sites is = short_none sites is
+  short_constant pc (Named tag i) sites is = short_none sites is
+  short_constant pc (Pair tag i j) sites is = short_none sites is
+  short_constant pc (Handle kind i) sites is = short_at (handle_form kind) pc i sites is
+
+  short_index : (pc index : ℕ) (sites : List Site) → AreOfIndex cs pc index sites → AllShort sites
+  short_index pc index sites (c, is, are) = short_constant pc c sites are
+
+  all_joined : {X : Type 0} (Are : X → List Site → Type 0) → ((x : X) (sites : List Site) → Are x sites → AllShort sites) → (xs : List X) (each : List (List Site)) → AllZip Are xs each → AllShort (joined each)
+  all_joined Are h [] [] z = tt
+  all_joined Are h [] (sites ∷ more) z = absurd z
+  all_joined Are h (x ∷ xs) [] z = absurd z
+  all_joined Are h (x ∷ xs) (sites ∷ more) z =
+      subst AllShort (sym (flat_map-cons (λ (l : List Site). l) sites more)) (both_short sites (joined more) (h x sites z.0) (all_joined Are h xs more z.1))
+
+  short_call : (rows : List BootstrapMethod) (call : DynamicCall) (sites : List Site) → AreOfCall cs rows call sites → AllShort sites
+  short_call rows call sites (b, is, are) = subst AllShort (sym are.all) (all_joined (AreOfIndex cs call.pc) (short_index call.pc) (b.handle ∷ b.arguments) are.each are.each_is)
+
+  one_of : (b : Bool) (xs ys : List Site) → AllShort xs → AllShort ys → AllShort (cond b xs ys)
+  one_of true xs ys p q = p
+  one_of false xs ys p q = q
+
+  short_merged : (ss hs : List Site) → AllShort ss → AllShort hs → AllShort (merged ss hs)
+  short_merged [] hs p q = q
+  short_merged (s ∷ ss) [] p q = p
+  short_merged (s ∷ ss) (h ∷ hs) p q = one_of (ltb h.pc s.pc) _ _ (q.0, short_merged (s ∷ ss) hs p q.1) (p.0, short_merged ss (h ∷ hs) p.1 q)
+
+  short_sites : (rows : List BootstrapMethod) (x : Found) (sites : List Site) → AllShort x.sites → AreSites cs rows x sites → AllShort sites
+  short_sites rows x sites short are =
+      subst AllShort (sym are.merged_are) (short_merged x.sites (joined are.each) short (all_joined (AreOfCall cs rows) (short_call rows) x.calls are.each are.each_is))
+
+  valid_method : (rows : List BootstrapMethod) (c : MemberInfo) (m : Method) → IsMethodOf cs rows c m → IsValidMethod m
+  valid_method rows c m is =
+      (short c.name m.name is.declared.name_is, short c.desc m.desc is.declared.desc_is, each_all HasShortNames m.sites (short_sites rows is.found m.sites (short_in c.attributes is.found is.code.code) is.sites))
 
   valid_field : (c : MemberInfo) (f : Field) → IsFieldOf cs c f → IsValidField f
   valid_field c f is = (short c.name f.name is.declared.name_is, short c.desc f.desc is.declared.desc_is)
@@ -105,7 +153,7 @@ view_valid c v is =
       superclass = short_super pool fit c.super v.superclass is.super;
       interfaces = table_is (NamesType pool) IsShort (short_type pool fit) c.interfaces v.interfaces is.few_interfaces is.interfaces;
       fields = table_is (IsFieldOf pool) IsValidField (valid_field pool fit) c.fields v.fields is.few_fields is.fields;
-      methods = table_is (IsMethodOf pool) IsValidMethod (valid_method pool fit) c.methods v.methods is.few_methods is.methods;
+      methods = table_is (IsMethodOf pool is.rows) IsValidMethod (valid_method pool fit is.rows) c.methods v.methods is.few_methods is.methods;
       distinct = methods_distinct v.methods is.distinct;
       few_sites = is.few_sites;
     }

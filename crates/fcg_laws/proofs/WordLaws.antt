@@ -1,13 +1,12 @@
 -- What the reading order's tests of words say.
 use Rattle.std.proofs.Common.{◌≡◌, ◌≢◌, ℕ, Bool, true, false, List, nat_eq, refl}
-use Rattle.std.specs.Prelude.{codes}
 use Rattle.std.specs.Bool.{Decides}
 use Rattle.std.specs.List.{AllPairs, IsDistinct}
 use Rattle.std.specs.Cmp.Lexicographic.{pointwise}
-use Rattle.std.proofs.lemmas.Bool.Decides.{Decides-eqb, Decides-and, Decides-not, not_from_Decides}
+use Rattle.std.proofs.lemmas.Bool.Decides.{Decides-eqb, Decides-and, not_from_Decides}
 use Rattle.std.proofs.lemmas.Slice.Eq.{slice_eq-Decides}
 use Rattle.fcg_views.specs.declared.view.Method.{Method}
-use Rattle.fcg_views.specs.Breaks.Words.{is_code, is_known, is_alike}
+use Rattle.fcg_views.specs.Breaks.Words.{is_same, is_alike}
 use Rattle.fcg_laws.proofs.Fresh.{pairs_found, pairs_only}
 
 pub same_text : (p q : List ℕ) → Decides (pointwise nat_eq p q) (p ≡ q)
@@ -17,21 +16,17 @@ not_true : (b : Bool) → (b ≡ true → ⊥) → b ≡ false
 not_true true h = absurd (h refl)
 not_true false h = refl
 
--- a name that is known isn't the one that isn't read yet
-pub known_found : (name : List ℕ) → is_known name ≡ true → name ≢ codes "BootstrapMethods"
-known_found name e = (Decides-not _ (same_text name (codes "BootstrapMethods"))).0 e
+pub same_name : (name word : List ℕ) → is_same name word ≡ true → name ≡ word
+same_name name word e = (same_text name word).0 e
 
-pub known_only : (name : List ℕ) → name ≢ codes "BootstrapMethods" → is_known name ≡ true
-known_only name p = (Decides-not _ (same_text name (codes "BootstrapMethods"))).1 p
+pub is_itself : (word : List ℕ) → is_same word word ≡ true
+is_itself word = (same_text word word).1 refl
 
-pub code_name : (name : List ℕ) → is_code name ≡ true → name ≡ codes "Code"
-code_name name e = (same_text name (codes "Code")).0 e
+pub other_name : (name word : List ℕ) → is_same name word ≡ false → name ≢ word
+other_name name word e = not_from_Decides (is_same name word) (same_text name word) e
 
-pub other_name : (name : List ℕ) → is_code name ≡ false → name ≢ codes "Code"
-other_name name e = not_from_Decides (is_code name) (same_text name (codes "Code")) e
-
-pub is_other_name : (name : List ℕ) → name ≢ codes "Code" → is_code name ≡ false
-is_other_name name p = not_true (is_code name) (λ e. p (code_name name e))
+pub is_other_name : (name word : List ℕ) → name ≢ word → is_same name word ≡ false
+is_other_name name word p = not_true (is_same name word) (λ e. p (same_name name word e))
 
 abbrev pub Differ : Method → Method → Type 0
 Differ m n = m.name ≡ n.name → m.desc ≢ n.desc

@@ -15,7 +15,7 @@ ghost use Rattle.fcg_views.specs.Breaks.Pool.{Placed, Entries, Reference, text_o
 ghost use Rattle.fcg_views.specs.Breaks.Members.{methods_at};
 ghost use Rattle.fcg_views.specs.Instructions.{is_in_any, forms, form_of, starts, Instruction, IsCode};
 ghost use Rattle.fcg_views.specs.Breaks.Instructions.{starts_of};
-ghost use Rattle.fcg_views.specs.Breaks.Code.{sites_of};
+ghost use Rattle.fcg_views.specs.Breaks.Code.{found_of};
 ghost use Rattle.fcg_laws.specs.Tables.{Holds};
 ghost use Rattle.fcg_laws.specs.Faults.{BrokenPool, BrokenMethods, BrokenCode, BrokenSites};
 
@@ -73,10 +73,10 @@ pub fn first_fault_of_code()
     ensures { (code : List ℕ) (f : ℕ × CodeRule) → IsBytes code → starts_of code ≡ Err f → BrokenCode code f }
 {}
 
-/// What stands in a code before its first fault, with the sites of its instructions. The code begins at a place of the
-/// file, so many sites of the class are before it, and the pool has these constants.
+/// What stands in a code before its first fault, with the sites and the calls of its instructions. The code begins at a
+/// place of the file, so many sites of the class are before it, and the pool has these constants.
 pub fn first_fault_of_sites()
-    ensures { (pool : Entries) (constants : List Constant) (begin : ℕ) (code : List ℕ) (count : ℕ) (f : ClassFault) → Holds pool constants → IsBytes code → count ≤ 1000000 → sites_of pool begin code count ≡ Err f → BrokenSites pool constants begin code count f }
+    ensures { (pool : Entries) (constants : List Constant) (begin : ℕ) (code : List ℕ) (count : ℕ) (f : ClassFault) → Holds pool constants → IsBytes code → count ≤ 1000000 → found_of pool begin code count ≡ Err f → BrokenSites pool constants begin code count f }
 {}
 
 /// Each opcode up to 201 stands in one row of the table of forms, and no other stands in any.

@@ -39,8 +39,8 @@ shaped_found : (bytes : List ℕ) (index at tag : ℕ) (shape : Option Shape) (x
 unfolding shaped_at shaped_in ShapeLies
 shaped_found bytes index at tag None x e = absurd cc
 shaped_found bytes index at tag (Some Text) x e =
-    let a = bind_ok (pool.u2_at bytes (at + 1) index) _ x e in
-    let b = bind_ok (pool.part_at bytes (at + 3) a.0 index) _ x a.2 in
+    let a = bind_ok (pool.u2_at bytes (at + 1)) _ x e in
+    let b = bind_ok (pool.part_at bytes (at + 3) a.0) _ x a.2 in
     let d = bind_ok (grouped (bad_group (at + 3) b.0) index) _ x b.2 in
     let n = u2_is _ bytes (at + 1) a.0 a.1 in
     let t = part_is _ bytes (at + 3) a.0 b.0 b.1 in
@@ -52,7 +52,7 @@ shaped_found bytes index at tag (Some Text) x e =
       within = t.0;
     })
 shaped_found bytes index at tag (Some (Bytes m)) x e =
-    let a = bind_ok (pool.part_at bytes (at + 1) m index) _ x e in
+    let a = bind_ok (pool.part_at bytes (at + 1) m) _ x e in
     let t = part_is _ bytes (at + 1) m a.0 a.1 in
     subst (λ (y : Constant × ℕ). IsShaped bytes at tag (Some (Bytes m)) y) (ok_is (Plain tag a.0, at + 1 + m) x a.2) (record {
       same = ap (λ (text : List ℕ). Plain tag text) t.1;
@@ -60,7 +60,7 @@ shaped_found bytes index at tag (Some (Bytes m)) x e =
       within = t.0;
     })
 shaped_found bytes index at tag (Some One) x e =
-    let a = bind_ok (pool.u2_at bytes (at + 1) index) _ x e in
+    let a = bind_ok (pool.u2_at bytes (at + 1)) _ x e in
     let n = u2_is _ bytes (at + 1) a.0 a.1 in
     let first : at + 3 ≤ length bytes = (let l = n.0 in omega arith) in
     subst (λ (y : Constant × ℕ). IsShaped bytes at tag (Some One) y) (ok_is (Named tag a.0, at + 3) x a.2) (record {
@@ -69,8 +69,8 @@ shaped_found bytes index at tag (Some One) x e =
       within = first;
     })
 shaped_found bytes index at tag (Some Two) x e =
-    let a = bind_ok (pool.u2_at bytes (at + 1) index) _ x e in
-    let b = bind_ok (pool.u2_at bytes (at + 3) index) _ x a.2 in
+    let a = bind_ok (pool.u2_at bytes (at + 1)) _ x e in
+    let b = bind_ok (pool.u2_at bytes (at + 3)) _ x a.2 in
     let n = u2_is _ bytes (at + 1) a.0 a.1 in
     let m = u2_is _ bytes (at + 3) b.0 b.1 in
     let first : at + 5 ≤ length bytes = (let l = m.0 in omega arith) in
@@ -80,8 +80,8 @@ shaped_found bytes index at tag (Some Two) x e =
       within = first;
     })
 shaped_found bytes index at tag (Some Kinded) x e =
-    let a = bind_ok (pool.u1_at bytes (at + 1) index) _ x e in
-    let b = bind_ok (pool.u2_at bytes (at + 2) index) _ x a.2 in
+    let a = bind_ok (pool.u1_at bytes (at + 1)) _ x e in
+    let b = bind_ok (pool.u2_at bytes (at + 2)) _ x a.2 in
     let n = u1_is _ bytes (at + 1) a.0 a.1 in
     let m = u2_is _ bytes (at + 2) b.0 b.1 in
     let first : at + 4 ≤ length bytes = (let l = m.0 in omega arith) in
@@ -100,7 +100,7 @@ pub record StandsAt (bytes : List ℕ) (at : ℕ) (x : Constant × ℕ) : Type 0
 pub constant_found : (bytes : List ℕ) (index at : ℕ) (x : Constant × ℕ) → constant_read bytes index at ≡ Ok x → StandsAt bytes at x
 unfolding constant_read constant_in
 constant_found bytes index at x e =
-    let a = bind_ok (pool.u1_at bytes at index) _ x e in
+    let a = bind_ok (pool.u1_at bytes at) _ x e in
     let n = u1_is _ bytes at a.0 a.1 in
     let here = subst (λ (tag : ℕ). shaped_at bytes index at tag (shape_of tag) ≡ Ok x) (sym n.1) a.2 in
     let s = shaped_found bytes index at (get_or bytes at 0) (shape_of (get_or bytes at 0)) x here in

@@ -1,7 +1,8 @@
 -- The structs of the code, as those of the definition.
-use Rattle.std.specs.Prelude.{◌≡◌, ℕ, List, false, Result, Ok}
+use Rattle.std.specs.Prelude.{◌≡◌, ℕ, List, false, Option, Some, None, Result, Ok}
 use Rattle.fcg_grammar.specs.Reading.{◌>>=◌}
 use Rattle.fcg_views.specs.declared.fault.PoolRule.{PoolRule}
+use Rattle.fcg_views.specs.ClassFile.{Constant, Utf8, Plain, Named, Pair, Handle}
 use Rattle.fcg_views.specs.Breaks.Pool as pool
 use Rattle.fcg_pool.specs.declared.entries.Next.{Next}
 use Rattle.fcg_pool.specs.declared.pool.Indexes.{Indexes}
@@ -34,3 +35,15 @@ class_name_of p index = pool.name_of p index >>= pool.text_of p
 -- the kind of the MethodHandle at an index, and the index of what it names
 abbrev pub handle_pair_of : pool.Entries → ℕ → Result (ℕ × ℕ) PoolRule
 handle_pair_of p index = pool.constant_of p index >>= pool.handle_in
+
+-- the kind of a method handle, and the index of what it names; a constant of another tag has none
+abbrev pub handle_indexes_in : Constant → Option (ℕ × ℕ)
+handle_indexes_in (Utf8 text) = None
+handle_indexes_in (Plain tag bytes) = None
+handle_indexes_in (Named tag i) = None
+handle_indexes_in (Pair tag i j) = None
+handle_indexes_in (Handle kind i) = Some (kind, i)
+
+-- the same of the constant at an index
+abbrev pub handle_indexes_of : pool.Entries → ℕ → Result (Option (ℕ × ℕ)) PoolRule
+handle_indexes_of p index = pool.constant_of p index >>= λ c. Ok (handle_indexes_in c)

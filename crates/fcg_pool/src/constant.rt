@@ -80,8 +80,8 @@ fn read_text(bytes: &[u8], index: u16, at: usize) -> Result<(Entry<'_>, usize), 
     requires { at < length bytes.now }
     ensures { seen (λ x. (constant_seen x.0, x.1)) result ≡ shaped_at bytes.now index at 1 (Some file.Text) }
 {
-    let len = usize::from(read_u2(bytes, at + 1, index)?);
-    let text = read_part(bytes, at + 3, len, index)?;
+    let len = usize::from(read_u2(bytes, at + 1)?);
+    let text = read_part(bytes, at + 3, len)?;
     if let Some(group) = find_bad_group(text, at + 3) {
         return Err(pool_fault_at(group, index, PoolRule::BadUtf8));
     }
@@ -99,7 +99,7 @@ fn read_plain(
     requires { at < length bytes.now }
     ensures { seen (λ x. (constant_seen x.0, x.1)) result ≡ shaped_at bytes.now index at tag (Some (file.Bytes n)) }
 {
-    let read = read_part(bytes, at + 1, usize::from(n), index)?;
+    let read = read_part(bytes, at + 1, usize::from(n))?;
     Ok((Entry::Plain(tag, read), at + 1 + usize::from(n)))
 }
 
@@ -108,7 +108,7 @@ fn read_named(bytes: &[u8], index: u16, at: usize, tag: u8) -> Result<(Entry<'_>
     requires { at < length bytes.now }
     ensures { seen (λ x. (constant_seen x.0, x.1)) result ≡ shaped_at bytes.now index at tag (Some file.One) }
 {
-    let i = read_u2(bytes, at + 1, index)?;
+    let i = read_u2(bytes, at + 1)?;
     Ok((Entry::Named(tag, i), at + 3))
 }
 
@@ -117,8 +117,8 @@ fn read_pair(bytes: &[u8], index: u16, at: usize, tag: u8) -> Result<(Entry<'_>,
     requires { at < length bytes.now }
     ensures { seen (λ x. (constant_seen x.0, x.1)) result ≡ shaped_at bytes.now index at tag (Some file.Two) }
 {
-    let i = read_u2(bytes, at + 1, index)?;
-    let j = read_u2(bytes, at + 3, index)?;
+    let i = read_u2(bytes, at + 1)?;
+    let j = read_u2(bytes, at + 3)?;
     Ok((Entry::Pair(tag, i, j), at + 5))
 }
 
@@ -127,8 +127,8 @@ fn read_handle(bytes: &[u8], index: u16, at: usize) -> Result<(Entry<'_>, usize)
     requires { at < length bytes.now }
     ensures { seen (λ x. (constant_seen x.0, x.1)) result ≡ shaped_at bytes.now index at 15 (Some file.Kinded) }
 {
-    let kind = read_u1(bytes, at + 1, index)?;
-    let i = read_u2(bytes, at + 2, index)?;
+    let kind = read_u1(bytes, at + 1)?;
+    let i = read_u2(bytes, at + 2)?;
     Ok((Entry::Handle(kind, i), at + 4))
 }
 
@@ -159,7 +159,7 @@ pub fn read_constant(bytes: &[u8], index: u16, at: usize) -> Result<(Entry<'_>, 
     requires { at ≤ length bytes.now }
     ensures { seen (λ x. (constant_seen x.0, x.1)) result ≡ constant_read bytes.now index at }
 {
-    let tag = read_u1(bytes, at, index)?;
+    let tag = read_u1(bytes, at)?;
     read_shaped(bytes, index, at, tag, shape_of(tag))
 }
 

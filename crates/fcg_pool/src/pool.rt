@@ -67,7 +67,7 @@ impl<'a> Model for Pool<'a> {
 impl<'a> Pool<'a> {
     ghost use Rattle.fcg_views.specs.Breaks.Pool.{Entries, constant_of, text_of, name_of, pair_of, reference_of, handle_of, dynamic_of, slot_kept, pool_at};
     ghost use Rattle.fcg_pool.specs.Entry.{constant_seen};
-    ghost use Rattle.fcg_pool.specs.Seen.{indexes_of, span_of, AreRefTexts, class_name_of, handle_pair_of};
+    ghost use Rattle.fcg_pool.specs.Seen.{indexes_of, span_of, AreRefTexts, class_name_of, handle_pair_of, handle_indexes_of};
 
     /// The bytes of the file.
     pub fn bytes(&self) -> &'a [u8]
@@ -196,8 +196,8 @@ impl<'a> Pool<'a> {
         Ok(texts.span)
     }
 
-    // The kind of the MethodHandle at an index, and the index of what it names.
-    fn handle_pair(&self, index: u16) -> Result<(u8, u16), PoolRule>
+    /// The kind of the MethodHandle at an index (JVMS 4.4.8), and the index of what it names.
+    pub fn handle_pair(&self, index: u16) -> Result<(u8, u16), PoolRule>
         ensures { result ≡ handle_pair_of self.now index }
     {
         match self.constant(index)? {
@@ -206,6 +206,20 @@ impl<'a> Pool<'a> {
             Entry::Named(_, _) => Err(PoolRule::WrongKind),
             Entry::Pair(_, _, _) => Err(PoolRule::WrongKind),
             Entry::Handle(kind, reference) => Ok((kind, reference)),
+        }
+    }
+
+    /// The kind of the MethodHandle at an index (JVMS 4.4.8), and the index of what it names; `None` where a constant of
+    /// another tag is. An index without a constant is the error `BadIndex`.
+    pub fn handle_indexes(&self, index: u16) -> Result<Option<(u8, u16)>, PoolRule>
+        ensures { result ≡ handle_indexes_of self.now index }
+    {
+        match self.constant(index)? {
+            Entry::Utf8(_) => Ok(None),
+            Entry::Plain(_, _) => Ok(None),
+            Entry::Named(_, _) => Ok(None),
+            Entry::Pair(_, _, _) => Ok(None),
+            Entry::Handle(kind, reference) => Ok(Some((kind, reference))),
         }
     }
 
@@ -250,7 +264,7 @@ impl<'a> Pool<'a> {
         ensures value { Gives (λ x. (x.0, x.1)) result (pool_at bytes.now at) }
         ensures inside { IfOk result (λ x. (x.1 ≤ length x.0.bytes) × (x.0.bytes ≡ bytes.now)) }
     {
-        let count = read_u2(bytes, at, 0)?;
+        let count = read_u2(bytes, at)?;
         let (places, next) = read_slots(alloc, bytes, count, at + 2)?;
         let pool = Pool { bytes, places };
         pool.check()?;

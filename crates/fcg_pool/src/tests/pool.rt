@@ -203,3 +203,21 @@ fn handles_and_dynamic(rt: HostRuntime) -> Result<(), Fail> {
     assert!(rt; pool.dynamic(7) == Err(PoolRule::WrongKind));
     Ok(())
 }
+
+#[test]
+fn indexes_of_handles(rt: HostRuntime) -> Result<(), Fail> {
+    let bytes = with_constant(rt.alloc(), b"\x0f\x06\x00\x05")?;
+    let (pool, _) = Pool::read(rt.alloc(), &bytes, 0)
+        .ok()
+        .ok_or("it is a pool")?;
+    assert!(rt; pool.handle_pair(7) == Ok((6, 5)));
+    assert!(rt; pool.handle_indexes(7) == Ok(Some((6, 5))));
+    // a Methodref
+    assert!(rt; pool.handle_pair(5) == Err(PoolRule::WrongKind));
+    assert!(rt; pool.handle_indexes(5) == Ok(None));
+    for index in [0, 8] {
+        assert!(rt; pool.handle_pair(index) == Err(PoolRule::BadIndex));
+        assert!(rt; pool.handle_indexes(index) == Err(PoolRule::BadIndex));
+    }
+    Ok(())
+}

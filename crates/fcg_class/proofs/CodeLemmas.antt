@@ -1,6 +1,6 @@
--- The sites of a code, one instruction after the other, as a loop reads them.
-use Rattle.std.proofs.Common.{◌≡◌, ℕ, suc, ◌+◌, ◌-◌, ◌<◌, ◌≤◌, List, [], ◌∷◌, ◌++◌, length, eqb, get_or, true, false, refl, sym, ap, subst, ◌∙◌, append_assoc, arith}
-use Rattle.std.specs.Prelude.{Option, Some, None, Result, Ok, Err, not, nat_lt}
+-- What the instructions of a code have, one after the other, as a loop reads them.
+use Rattle.std.proofs.Common.{◌≡◌, ℕ, suc, ◌+◌, ◌-◌, ◌<◌, ◌≤◌, List, [], ◌∷◌, ◌++◌, length, eqb, get_or, refl, sym, ap, subst, ◌∙◌, append_assoc, arith}
+use Rattle.std.specs.Prelude.{true, false, Option, Some, None, Result, Ok, Err, nat_lt}
 use Rattle.std.proofs.lemmas.List.{append-nil, length-append}
 use Rattle.std.proofs.lemmas.Bool.Decides.{nat_tests}
 use Rattle.fcg_grammar.specs.declared.error.ReadError.{ReadError}
@@ -10,127 +10,135 @@ use Rattle.fcg_grammar.proofs.LawLemmas.{bind_ok, kept_ok}
 use Rattle.fcg_grammar.proofs.Standing.{ok_is}
 use Rattle.fcg_views.specs.declared.view.Site.{Site}
 use Rattle.fcg_views.specs.declared.fault.ClassFault.{ClassFault}
-use Rattle.fcg_views.specs.declared.fault.ClassRule.TheVariants.{ManySites, NotBuilt}
-use Rattle.fcg_views.specs.Sites.{SiteForm, site_form, is_unread}
+use Rattle.fcg_views.specs.declared.fault.ClassRule.TheVariants.{ManySites}
+use Rattle.fcg_views.specs.Sites.{SiteForm, site_form, is_dynamic, Found, nothing, both}
 use Rattle.fcg_views.specs.Breaks.Fault.{fault, at_opcode}
 use Rattle.fcg_views.specs.Breaks.Pool.{Entries}
 use Rattle.fcg_views.specs.Breaks.Instructions.{next_at, operand_at}
-use Rattle.fcg_views.specs.Breaks.Code.{target_of, site_at, sites_by, sites_at, sites_from}
+use Rattle.fcg_views.specs.Breaks.Code.{target_of, site_of, sites_by, calls_by, found_at, found_from}
 
 -- what was read before, and what is still read
-abbrev pub after_front : List Site → Result (List Site) ClassFault → Result (List Site) ClassFault
-after_front front read = read >>= λ sites. Ok (front ++ sites)
+abbrev pub after_front : Found → Result Found ClassFault → Result Found ClassFault
+after_front front read = read >>= λ others. Ok (both front others)
 
-regroup : (front here : List Site) (read : Result (List Site) ClassFault) → after_front front (read >>= λ others. Ok (here ++ others)) ≡ after_front (front ++ here) read
-regroup front here (Ok others) = simp append_assoc
+both_assoc : (x y z : Found) → both x (both y z) ≡ both (both x y) z
+both_assoc x y z = rw (append_assoc x.sites y.sites z.sites, append_assoc x.calls y.calls z.calls) refl
+
+regroup : (front here : Found) (read : Result Found ClassFault) → after_front front (read >>= λ others. Ok (both here others)) ≡ after_front (both front here) read
+regroup front here (Ok others) = ap (λ (x : Found). Ok x) (both_assoc front here others)
 regroup front here (Err f) = refl
 
+both-nothing : (x : Found) → both x nothing ≡ x
+both-nothing x = rw (append-nil x.sites, append-nil x.calls) refl
+
+-- a site that is read had room
+one_counted : (pool : Entries) (form : SiteForm) (at pc index count : ℕ) (s : Site) → site_of pool form at pc index count ≡ Ok s → count < 1000000
+unfolding site_of
+one_counted pool form at pc index count s e =
+    let a = bind_ok (target_of pool form.target at index) _ s e in
+    let b = bind_ok (unless_broken (nat_lt count 1000000) (fault at 0 ManySites)) _ s a.2 in
+    below count (kept_ok (nat_lt count 1000000) (fault at 0 ManySites) b.0 b.1)
+  where
+    below : (n : ℕ) → nat_lt n 1000000 ≡ true → n < 1000000
+    below n is = grind (arith, nat_tests)
+
 module _ (pool : Entries) (begin : ℕ) (code : List ℕ) where
-  one_step : (f pc count next : ℕ) (here : List Site) → pc < length code → at_opcode (begin + pc) (next_at code pc) ≡ Ok next → sites_at pool begin code pc count ≡ Ok here
-      → sites_from pool begin code (suc f) pc count ≡ (sites_from pool begin code f next (count + length here) >>= λ others. Ok (here ++ others))
-  unfolding sites_from
+  one_step : (f pc count next : ℕ) (here : Found) → pc < length code → at_opcode (begin + pc) (next_at code pc) ≡ Ok next → found_at pool begin code pc count ≡ Ok here
+      → found_from pool begin code (suc f) pc count ≡ (found_from pool begin code f next (count + length here.sites) >>= λ others. Ok (both here others))
+  unfolding found_from
   one_step f pc count next here lt follows read =
       let more : eqb (length code) pc ≡ false = grind (arith, nat_tests) in
       rw (more, follows, read) refl
 
-  no_next : (f pc count : ℕ) (fault : ClassFault) → pc < length code → at_opcode (begin + pc) (next_at code pc) ≡ Err fault → sites_from pool begin code (suc f) pc count ≡ Err fault
-  unfolding sites_from
+  no_next : (f pc count : ℕ) (fault : ClassFault) → pc < length code → at_opcode (begin + pc) (next_at code pc) ≡ Err fault → found_from pool begin code (suc f) pc count ≡ Err fault
+  unfolding found_from
   no_next f pc count fault lt broken =
       let more : eqb (length code) pc ≡ false = grind (arith, nat_tests) in
       rw (more, broken) refl
 
-  no_site : (f pc count next : ℕ) (fault : ClassFault) → pc < length code → at_opcode (begin + pc) (next_at code pc) ≡ Ok next → sites_at pool begin code pc count ≡ Err fault
-      → sites_from pool begin code (suc f) pc count ≡ Err fault
-  unfolding sites_from
-  no_site f pc count next fault lt follows broken =
+  no_found : (f pc count next : ℕ) (fault : ClassFault) → pc < length code → at_opcode (begin + pc) (next_at code pc) ≡ Ok next → found_at pool begin code pc count ≡ Err fault
+      → found_from pool begin code (suc f) pc count ≡ Err fault
+  unfolding found_from
+  no_found f pc count next fault lt follows broken =
       let more : eqb (length code) pc ≡ false = grind (arith, nat_tests) in
       rw (more, follows, broken) refl
 
-  at_end : (f pc count : ℕ) → length code ≡ pc → sites_from pool begin code (suc f) pc count ≡ Ok []
-  unfolding sites_from
+  at_end : (f pc count : ℕ) → length code ≡ pc → found_from pool begin code (suc f) pc count ≡ Ok nothing
+  unfolding found_from
   at_end f pc count end =
       let here : eqb (length code) pc ≡ true = grind (arith, nat_tests) in
       rw here refl
 
-  -- The sites before a place are read. The fuel is what still bounds the instructions.
-  pub record SitesLeft (count pc : ℕ) (front : List Site) (total : Result (List Site) ClassFault) : Type 0 where
+  -- What the instructions before a place have is read. The fuel is what still bounds the instructions.
+  pub record FoundLeft (count pc : ℕ) (front : Found) (total : Result Found ClassFault) : Type 0 where
     pub fuel : ℕ
     pub enough : length code < fuel + pc
-    pub so_far : after_front front (sites_from pool begin code fuel pc (count + length front)) ≡ total
+    pub so_far : after_front front (found_from pool begin code fuel pc (count + length front.sites)) ≡ total
 
   -- the same with a fuel that isn't used up
-  left_more : (count pc : ℕ) (front : List Site) (total : Result (List Site) ClassFault) → pc ≤ length code → (left : SitesLeft count pc front total)
-      → (f : ℕ) × (left.fuel ≡ suc f) × (after_front front (sites_from pool begin code (suc f) pc (count + length front)) ≡ total)
+  left_more : (count pc : ℕ) (front : Found) (total : Result Found ClassFault) → pc ≤ length code → (left : FoundLeft count pc front total)
+      → (f : ℕ) × (left.fuel ≡ suc f) × (after_front front (found_from pool begin code (suc f) pc (count + length front.sites)) ≡ total)
   left_more count pc front total le left =
       let some : left.fuel ≡ suc (left.fuel - 1) = (let e = left.enough in omega (arith, e, le)) in
-      (left.fuel - 1, some, subst (λ (n : ℕ). after_front front (sites_from pool begin code n pc (count + length front)) ≡ total) some left.so_far)
+      (left.fuel - 1, some, subst (λ (n : ℕ). after_front front (found_from pool begin code n pc (count + length front.sites)) ≡ total) some left.so_far)
 
-  pub sites_begin : (count : ℕ) → SitesLeft count 0 [] (sites_from pool begin code (1 + length code) 0 count)
-  sites_begin count =
+  pub found_begin : (count : ℕ) → FoundLeft count 0 nothing (found_from pool begin code (1 + length code) 0 count)
+  found_begin count =
       let none : count ≡ count + length {A = Site} [] = omega arith in
       record {
         fuel = 1 + length code;
         enough = omega arith;
-        so_far = subst (λ (n : ℕ). after_front [] (sites_from pool begin code (1 + length code) 0 n) ≡ sites_from pool begin code (1 + length code) 0 count) none (unread (sites_from pool begin code (1 + length code) 0 count));
+        so_far = subst (λ (n : ℕ). after_front nothing (found_from pool begin code (1 + length code) 0 n) ≡ found_from pool begin code (1 + length code) 0 count) none (unread (found_from pool begin code (1 + length code) 0 count));
       }
     where
-      unread : (read : Result (List Site) ClassFault) → after_front [] read ≡ read
-      unread (Ok sites) = refl
+      unread : (read : Result Found ClassFault) → after_front nothing read ≡ read
+      unread (Ok x) = refl
       unread (Err f) = refl
 
-  pub sites_go_on : (count pc next : ℕ) (front here : List Site) (total : Result (List Site) ClassFault) → pc < length code → pc < next
-      → at_opcode (begin + pc) (next_at code pc) ≡ Ok next → sites_at pool begin code pc (count + length front) ≡ Ok here
-      → SitesLeft count pc front total → SitesLeft count next (front ++ here) total
-  sites_go_on count pc next front here total lt later follows read left =
+  pub found_go_on : (count pc next : ℕ) (front here : Found) (total : Result Found ClassFault) → pc < length code → pc < next
+      → at_opcode (begin + pc) (next_at code pc) ≡ Ok next → found_at pool begin code pc (count + length front.sites) ≡ Ok here
+      → FoundLeft count pc front total → FoundLeft count next (both front here) total
+  found_go_on count pc next front here total lt later follows read left =
       let m = left_more count pc front total (omega (arith, lt)) left in
-      let n : count + length front + length here ≡ count + length (front ++ here) = rw (length-append front here) (omega arith) in
-      let one = ap (after_front front) (one_step m.0 pc (count + length front) next here lt follows read) ∙ regroup front here (sites_from pool begin code m.0 next (count + length front + length here)) in
+      let n : count + length front.sites + length here.sites ≡ count + length (front.sites ++ here.sites) = rw (length-append front.sites here.sites) (omega arith) in
+      let one = ap (after_front front) (one_step m.0 pc (count + length front.sites) next here lt follows read) ∙ regroup front here (found_from pool begin code m.0 next (count + length front.sites + length here.sites)) in
       record {
         fuel = m.0;
         enough = (let e = left.enough in let s = m.1 in omega (arith, e, s, later));
-        so_far = subst (λ (k : ℕ). after_front (front ++ here) (sites_from pool begin code m.0 next k) ≡ total) n (sym one ∙ m.2);
+        so_far = subst (λ (k : ℕ). after_front (both front here) (found_from pool begin code m.0 next k) ≡ total) n (sym one ∙ m.2);
       }
 
-  pub next_fails : (count pc : ℕ) (front : List Site) (fault : ClassFault) (total : Result (List Site) ClassFault) → pc < length code
-      → at_opcode (begin + pc) (next_at code pc) ≡ Err fault → SitesLeft count pc front total → total ≡ Err fault
+  pub next_fails : (count pc : ℕ) (front : Found) (fault : ClassFault) (total : Result Found ClassFault) → pc < length code
+      → at_opcode (begin + pc) (next_at code pc) ≡ Err fault → FoundLeft count pc front total → total ≡ Err fault
   next_fails count pc front fault total lt broken left =
       let m = left_more count pc front total (omega (arith, lt)) left in
-      sym m.2 ∙ ap (after_front front) (no_next m.0 pc (count + length front) fault lt broken)
+      sym m.2 ∙ ap (after_front front) (no_next m.0 pc (count + length front.sites) fault lt broken)
 
-  pub sites_fail : (e : ReadError ClassFault) (count pc next : ℕ) (front : List Site) (total : Result (List Site) ClassFault) → pc < length code
-      → at_opcode (begin + pc) (next_at code pc) ≡ Ok next → Fails e (sites_at pool begin code pc (count + length front)) → SitesLeft count pc front total → Fails e total
-  sites_fail errors.NoMemory count pc next front total lt follows broken left = tt
-  sites_fail (errors.Fault f) count pc next front total lt follows broken left =
+  pub found_fails : (e : ReadError ClassFault) (count pc next : ℕ) (front : Found) (total : Result Found ClassFault) → pc < length code
+      → at_opcode (begin + pc) (next_at code pc) ≡ Ok next → Fails e (found_at pool begin code pc (count + length front.sites)) → FoundLeft count pc front total → Fails e total
+  found_fails errors.NoMemory count pc next front total lt follows broken left = tt
+  found_fails (errors.Fault f) count pc next front total lt follows broken left =
       let m = left_more count pc front total (omega (arith, lt)) left in
-      sym m.2 ∙ ap (after_front front) (no_site m.0 pc (count + length front) next f lt follows broken)
+      sym m.2 ∙ ap (after_front front) (no_found m.0 pc (count + length front.sites) next f lt follows broken)
 
-  pub sites_done : (count pc : ℕ) (front : List Site) (total : Result (List Site) ClassFault) → length code ≤ pc → pc ≤ length code → SitesLeft count pc front total → total ≡ Ok front
-  sites_done count pc front total all le left =
+  pub found_done : (count pc : ℕ) (front : Found) (total : Result Found ClassFault) → length code ≤ pc → pc ≤ length code → FoundLeft count pc front total → total ≡ Ok front
+  found_done count pc front total all le left =
       let m = left_more count pc front total le left in
-      sym m.2 ∙ ap (after_front front) (at_end m.0 pc (count + length front) (omega (arith, all, le))) ∙ ap (λ (xs : List Site). Ok xs) (append-nil front)
+      sym m.2 ∙ ap (after_front front) (at_end m.0 pc (count + length front.sites) (omega (arith, all, le))) ∙ ap (λ (x : Found). Ok x) (both-nothing front)
 
   -- ---- the sites are few
-
-  one_counted : (form : SiteForm) (pc count : ℕ) (s : Site) → site_at pool begin code form pc count ≡ Ok s → count < 1000000
-  unfolding site_at
-  one_counted form pc count s e =
-      let a = bind_ok (target_of pool form.named (begin + pc) (operand_at code pc)) _ s e in
-      let b = bind_ok (unless_broken (nat_lt count 1000000) (fault (begin + pc) 0 ManySites)) _ s a.2 in
-      below count (kept_ok (nat_lt count 1000000) (fault (begin + pc) 0 ManySites) b.0 b.1)
-    where
-      below : (n : ℕ) → nat_lt n 1000000 ≡ true → n < 1000000
-      below n is = grind (arith, nat_tests)
 
   formed_counted : (form : Option SiteForm) (pc count : ℕ) (here : List Site) → sites_by pool begin code form pc count ≡ Ok here → count ≤ 1000000 → count + length here ≤ 1000000
   formed_counted None pc count here e le = subst (λ (xs : List Site). count + length xs ≤ 1000000) (ok_is [] here e) (omega (arith, le))
   formed_counted (Some form) pc count here e le =
-      let a = bind_ok (site_at pool begin code form pc count) _ here e in
-      let lt = one_counted form pc count a.0 a.1 in
+      let a = bind_ok (site_of pool form (begin + pc) pc (operand_at code pc) count) _ here e in
+      let lt = one_counted pool form (begin + pc) pc (operand_at code pc) count a.0 a.1 in
       subst (λ (xs : List Site). count + length xs ≤ 1000000) (ok_is (a.0 ∷ []) here a.2) (omega (arith, lt))
 
   -- where there is a site more, there were fewer before
-  pub sites_counted : (pc count : ℕ) (here : List Site) → sites_at pool begin code pc count ≡ Ok here → count ≤ 1000000 → count + length here ≤ 1000000
-  unfolding sites_at
-  sites_counted pc count here e le =
-      let a = bind_ok (unless_broken (not (is_unread (get_or code pc 0))) (fault (begin + pc) 0 NotBuilt)) _ here e in
-      formed_counted (site_form (get_or code pc 0)) pc count here a.2 le
+  pub found_counted : (pc count : ℕ) (here : Found) → found_at pool begin code pc count ≡ Ok here → count ≤ 1000000 → count + length here.sites ≤ 1000000
+  unfolding found_at
+  found_counted pc count here e le =
+      let a = bind_ok (sites_by pool begin code (site_form (get_or code pc 0)) pc count) _ here e in
+      let b = bind_ok (calls_by pool begin code (is_dynamic (get_or code pc 0)) pc) _ here a.2 in
+      subst (λ (x : Found). count + length x.sites ≤ 1000000) (ok_is _ here b.2) (formed_counted (site_form (get_or code pc 0)) pc count a.0 a.1 le)

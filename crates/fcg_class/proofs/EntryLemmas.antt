@@ -2,7 +2,7 @@
 use Rattle.std.proofs.Common.{◌≡◌, ℕ, ◌+◌, ◌-◌, ◌<◌, arith, Bool, true, false, cond, not, ◌||◌, leb, Option, Some, None, List, [], ◌∷◌, ◌++◌, refl, sym, ap, ◌∙◌}
 use Rattle.std.specs.Prelude.{Result, Ok, Err}
 use Rattle.std.specs.Borrow.{Bor}
-use Rattle.std.specs.List.{list_any}
+use Rattle.std.specs.List.{flat_map, list_any}
 use Rattle.std.specs.Ordering.{is_eq}
 use Rattle.std.specs.Cmp.Lexicographic.{texts_ties}
 use Rattle.std.specs.BTreeSet as tree
@@ -19,8 +19,8 @@ use Rattle.fcg_views.specs.declared.view.View.{View}
 use Rattle.fcg_views.specs.Valid.{left_of}
 use Rattle.fcg_class.specs.declared.bundle.Ahead.{Ahead}
 use Rattle.fcg_class.specs.declared.bundle.BundleFault.{BundleFault}
-use Rattle.fcg_class.specs.declared.bundle.BundleFault.TheVariants.{NotBuilt}
-use Rattle.fcg_class.specs.Bundle.{sites_in, some_of, views_of, Begun, is_same, path_at, body_at, entry_at}
+use Rattle.fcg_class.specs.declared.bundle.BundleRule.TheVariants.{Path, ManySites}
+use Rattle.fcg_class.specs.Bundle.{broken, shown, sites_in, some_of, Begun, is_same, path_at, body_at, entry_at}
 use Rattle.fcg_class.specs.Entries.{path_cmp, ArePaths, begun, start, GivesEntry}
 
 negated : (a b c : Bool) → a ≡ b → c ≡ not a → not c ≡ b
@@ -45,26 +45,34 @@ ArePaths-push old new before path are updates p =
     ∙ rw (← texts_ties path.now p.now, are p) (either (is_same path.now p.now) (list_any (λ q. is_same q p.now) before))
     ∙ sym (list_any-append (λ q. is_same q p.now) before (path.now ∷ []))
 
-pub entry_at-twice : (bytes : List ℕ) (k : ℕ) (ahead : Ahead) (before : List (List ℕ)) (path : List ℕ) (after : ℕ) → path_at bytes ahead.at ≡ Ok (path, after) → true ≡ list_any (λ p. is_same p path) before → entry_at bytes k (begun ahead before) ≡ Err NotBuilt
+pub entry_at-twice : (bytes : List ℕ) (k : ℕ) (ahead : Ahead) (before : List (List ℕ)) (path : List ℕ) (after : ℕ) → path_at bytes k ahead.at ≡ Ok (path, after) → true ≡ list_any (λ p. is_same p path) before → entry_at bytes k (begun ahead before) ≡ Err (broken (ahead.at + 2) k Path)
 unfolding entry_at
 entry_at-twice bytes k ahead before path after p t = rw (p, ← t) refl
 
+left : (b : Bool) (n m : ℕ) → cond b (Some n) None ≡ Some m → (b ≡ true) × (m ≡ n)
+left true n m e = (refl, cc)
+left false n m e = absurd cc
+
+none_left : (b : Bool) (n : ℕ) → cond b (Some n) None ≡ None → b ≡ false
+none_left true n e = absurd cc
+none_left false n e = refl
+
 -- the path is read, and no earlier one is the same
-module _ (bytes : List ℕ) (k : ℕ) (ahead : Ahead) (before : List (List ℕ)) (path : List ℕ) (after : ℕ) (is : path_at bytes ahead.at ≡ Ok (path, after)) (fresh : false ≡ list_any (λ p. is_same p path) before) where
-  pub entry_at-broken : (e : ReadError BundleFault) → Fails e (body_at bytes after) → Fails e (entry_at bytes k (begun ahead before))
+module _ (bytes : List ℕ) (k : ℕ) (ahead : Ahead) (before : List (List ℕ)) (path : List ℕ) (after : ℕ) (is : path_at bytes k ahead.at ≡ Ok (path, after)) (fresh : false ≡ list_any (λ p. is_same p path) before) where
+  pub entry_at-broken : (e : ReadError BundleFault) → Fails e (body_at bytes k path after) → Fails e (entry_at bytes k (begun ahead before))
   unfolding entry_at
   entry_at-broken errors.NoMemory given = tt
   entry_at-broken (errors.Fault f) given = rw (is, ← fresh, given) refl
 
-  pub entry_at-read : (r : Option View) (end room : ℕ) → body_at bytes after ≡ Ok (r, end) → left_of ahead.room (sites_in r) ≡ Some room → entry_at bytes k (begun ahead before) ≡ Ok (r, begun (record { at = end; room = room }) (before ++ path ∷ []))
+  pub entry_at-many : (r : Option View) (end : ℕ) → body_at bytes k path after ≡ Ok (r, end) → left_of ahead.room (sites_in r) ≡ None → entry_at bytes k (begun ahead before) ≡ Err (broken (after + 4) k ManySites)
+  unfolding entry_at
+  entry_at-many r end given none = rw (is, ← fresh, given, none_left (leb (sites_in r) ahead.room) _ none) refl
+
+  pub entry_at-read : (r : Option View) (end room : ℕ) → body_at bytes k path after ≡ Ok (r, end) → left_of ahead.room (sites_in r) ≡ Some room → entry_at bytes k (begun ahead before) ≡ Ok (shown path r, begun (record { at = end; room = room }) (before ++ path ∷ []))
   unfolding entry_at
   entry_at-read r end room given some =
       let l = left (leb (sites_in r) ahead.room) _ room some in
       rw (is, ← fresh, given, l.0, ← l.1) refl
-    where
-      left : (b : Bool) (n m : ℕ) → cond b (Some n) None ≡ Some m → (b ≡ true) × (m ≡ n)
-      left true n m e = (refl, cc)
-      left false n m e = absurd cc
 
 -- ---- the rows of entries, one after the other
 
@@ -86,7 +94,7 @@ pub entries_go_on : (bytes : List ℕ) (count k : ℕ) (place : Ahead) (before :
 entries_go_on bytes count k place before front view after set total lt given so_far =
     (before ++ given.0 ∷ [], given.1, rows_go_on (entry_at bytes) front count k (begun place before) view (begun after (before ++ given.0 ∷ [])) total lt given.2 so_far)
 
--- the views, where an entry was added
-pub views_more : (front : List (Option View)) (r : Option View) (old new : List View) → old ≡ views_of front → new ≡ old ++ some_of r → new ≡ views_of (front ++ r ∷ [])
+-- the views, where that of an entry was added
+pub views_more : (front : List (Option View)) (r : Option View) (old new : List View) → old ≡ flat_map some_of front → new ≡ old ++ some_of r → new ≡ flat_map some_of (front ++ r ∷ [])
 views_more front r old new are pushed =
-    pushed ∙ ap (λ (vs : List View). vs ++ some_of r) are ∙ ap (λ (vs : List View). views_of front ++ vs) (sym (append-nil (some_of r)) ∙ sym (flat_map-cons some_of r [])) ∙ sym (flat_map-append some_of front (r ∷ []))
+    pushed ∙ ap (λ (vs : List View). vs ++ some_of r) are ∙ ap (λ (vs : List View). flat_map some_of front ++ vs) (sym (append-nil (some_of r)) ∙ sym (flat_map-cons some_of r [])) ∙ sym (flat_map-append some_of front (r ∷ []))

@@ -2,7 +2,7 @@
 use Rattle.std.proofs.Common.{◌≡◌, ℕ, zero, suc, List, [], ◌∷◌, refl}
 use Rattle.std.specs.Prelude.{Result, Ok, Err}
 use Rattle.fcg_grammar.specs.Reading.{◌>>=◌}
-use Rattle.fcg_views.specs.Breaks.Pool.{Entries, Indexes, constant_of, text_of, name_of, pair_of, reference_of}
+use Rattle.fcg_views.specs.Breaks.Pool.{Entries, Indexes, constant_of, text_of, name_of, pair_of, reference_of, dynamic_of}
 use Rattle.fcg_views.specs.Breaks.Attributes.{over}
 
 -- two readings that begin alike and go on alike
@@ -37,3 +37,7 @@ module _ (bytes : List ℕ) (pool : Entries) where
       rw (pair_over (12 ∷ []) pair.second) (bind_alike (pair_of pool (12 ∷ []) pair.second) _ _ (λ (member : Indexes).
       rw (text_over member.first) (bind_alike (text_of pool member.first) _ _ (λ (name : List ℕ).
       rw (text_over member.second) refl))))))))))
+
+  pub dynamic_over : (index : ℕ) → dynamic_of (over bytes pool) index ≡ dynamic_of pool index
+  unfolding dynamic_of
+  dynamic_over index = rw (pair_over (18 ∷ []) index) refl

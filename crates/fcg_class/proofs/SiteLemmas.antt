@@ -1,24 +1,18 @@
--- The sites of an instruction.
-use Rattle.std.proofs.Common.{◌≡◌, ℕ, ◌+◌, ◌<◌, ◌≤◌, List, [], ◌∷◌, Bool, false, Option, Some, None, get_or, refl, ◌∙◌}
-use Rattle.std.specs.Prelude.{Ok, Err}
-use Rattle.std.proofs.lemmas.Bool.{lt-ltb, le-ltb}
-use Rattle.fcg_grammar.specs.declared.error.ReadError.{ReadError}
-use Rattle.fcg_grammar.specs.declared.error.ReadError.TheVariants as errors
-use Rattle.fcg_grammar.specs.Reading.{◌>>=◌, Fails}
-use Rattle.fcg_views.specs.declared.view.Ref.{Ref}
+-- What the instructions of a code have depends on the constants of the pool alone, whichever bytes are read.
+use Rattle.std.proofs.Common.{◌≡◌, ℕ, zero, suc, ◌+◌, List, [], ◌∷◌, length, eqb, get_or, refl}
+use Rattle.std.specs.Prelude.{Bool, true, false, Option, Some, None, Result, Ok, if◌then◌else◌}
+use Rattle.fcg_grammar.specs.Reading.{◌>>=◌}
 use Rattle.fcg_views.specs.declared.fault.ClassFault.{ClassFault}
-use Rattle.fcg_views.specs.declared.fault.ClassRule.TheVariants.{ManySites}
 use Rattle.fcg_views.specs.DescSteps.{is_descriptor, is_field_descriptor}
-use Rattle.fcg_views.specs.Sites.{Named, Method, Field, Class, SiteForm, site_form, is_unread}
-use Rattle.fcg_views.specs.Breaks.Fault.{fault}
-use Rattle.fcg_views.specs.Breaks.Instructions.{operand_at}
+use Rattle.fcg_views.specs.Sites.{Target, ToMethod, ToField, ToType, SiteForm, site_form, is_dynamic, Found, nothing, both}
+use Rattle.fcg_views.specs.Breaks.Fault.{at_opcode}
+use Rattle.fcg_views.specs.Breaks.Instructions.{operand_at, next_at}
 use Rattle.fcg_views.specs.Breaks.Names.{type_of}
 use Rattle.fcg_views.specs.Breaks.Pool.{Entries, name_of, text_of}
 use Rattle.fcg_views.specs.Breaks.Attributes.{over}
-use Rattle.fcg_views.specs.Breaks.Code.{member_of, target_of, site_at, sites_by, sites_at}
-use Rattle.fcg_class.proofs.OverLemmas.{bind_alike, text_over, name_over, reference_over}
+use Rattle.fcg_views.specs.Breaks.Code.{member_of, target_of, site_of, sites_by, calls_by, found_at, found_from, found_of}
+use Rattle.fcg_class.proofs.OverLemmas.{bind_alike, text_over, name_over, reference_over, dynamic_over}
 
--- the sites depend on the constants of the pool alone
 module _ (bytes : List ℕ) (pool : Entries) where
   member_over : (is_typed : List ℕ → Bool) (tags : List ℕ) (at index : ℕ) → member_of (over bytes pool) is_typed tags at index ≡ member_of pool is_typed tags at index
   unfolding member_of
@@ -31,47 +25,43 @@ module _ (bytes : List ℕ) (pool : Entries) where
   unfolding type_of
   type_over at index = rw (named_over index) refl
 
-  target_over : (named : Named) (at index : ℕ) → target_of (over bytes pool) named at index ≡ target_of pool named at index
-  target_over (Method tags) at index = member_over is_descriptor tags at index
-  target_over Field at index = member_over is_field_descriptor (9 ∷ []) at index
-  target_over Class at index = rw (type_over at index) refl
+  target_over : (target : Target) (at index : ℕ) → target_of (over bytes pool) target at index ≡ target_of pool target at index
+  target_over (ToMethod tags) at index = member_over is_descriptor tags at index
+  target_over ToField at index = member_over is_field_descriptor (9 ∷ []) at index
+  target_over ToType at index = rw (type_over at index) refl
 
-  pub sites_over : (begin : ℕ) (code : List ℕ) (pc count : ℕ) → sites_at (over bytes pool) begin code pc count ≡ sites_at pool begin code pc count
-  unfolding sites_at site_at
-  sites_over begin code pc count = bind_alike _ _ _ (λ known. by_form (site_form (get_or code pc 0)))
-    where
-      by_form : (form : Option SiteForm) → sites_by (over bytes pool) begin code form pc count ≡ sites_by pool begin code form pc count
-      by_form None = refl
-      by_form (Some form) = rw (target_over form.named (begin + pc) (operand_at code pc)) refl
+  site_over : (form : SiteForm) (at pc index count : ℕ) → site_of (over bytes pool) form at pc index count ≡ site_of pool form at pc index count
+  unfolding site_of
+  site_over form at pc index count = rw (target_over form.target at index) refl
 
--- The instruction at a place has this opcode and this operand, and its sites have this form.
-module _ (bytes : List ℕ) (pool : Entries) (begin : ℕ) (code : List ℕ) (pc count at op operand : ℕ) (form : SiteForm) where
-  formed : op ≡ get_or code pc 0 → is_unread op ≡ false → Some form ≡ site_form op → sites_at (over bytes pool) begin code pc count ≡ (site_at pool begin code form pc count >>= λ s. Ok (s ∷ []))
-  unfolding sites_at
-  formed is_op known form_is = sites_over bytes pool begin code pc count ∙ rw (← is_op, known, ← form_is) refl
+  module _ (begin : ℕ) (code : List ℕ) where
+    sites_over : (form : Option SiteForm) (pc count : ℕ) → sites_by (over bytes pool) begin code form pc count ≡ sites_by pool begin code form pc count
+    sites_over None pc count = refl
+    sites_over (Some form) pc count = rw (site_over form (begin + pc) pc (operand_at code pc) count) refl
 
-  formed_broken : (f : ClassFault) → at ≡ begin + pc → operand ≡ operand_at code pc → target_of pool form.named at operand ≡ Err f → site_at pool begin code form pc count ≡ Err f
-  unfolding site_at
-  formed_broken f is_at is_operand broken = rw (← is_at, ← is_operand, broken) refl
+    calls_over : (dynamic : Bool) (pc : ℕ) → calls_by (over bytes pool) begin code dynamic pc ≡ calls_by pool begin code dynamic pc
+    calls_over false pc = refl
+    calls_over true pc = rw (dynamic_over bytes pool (operand_at code pc)) refl
 
-  formed_past : (r : Ref) → at ≡ begin + pc → operand ≡ operand_at code pc → target_of pool form.named at operand ≡ Ok r → 1000000 ≤ count → site_at pool begin code form pc count ≡ Err (fault at 0 ManySites)
-  unfolding site_at
-  formed_past r is_at is_operand named many = rw (← is_at, ← is_operand, named, le-ltb count 1000000 many) refl
+    found_at_over : (pc count : ℕ) → found_at (over bytes pool) begin code pc count ≡ found_at pool begin code pc count
+    unfolding found_at
+    found_at_over pc count = rw (sites_over (site_form (get_or code pc 0)) pc count, calls_over (is_dynamic (get_or code pc 0)) pc) refl
 
-  formed_read : (r : Ref) → at ≡ begin + pc → operand ≡ operand_at code pc → target_of pool form.named at operand ≡ Ok r → count < 1000000 → site_at pool begin code form pc count ≡ Ok (record { pc = pc; kind = form.kind; target = r })
-  unfolding site_at
-  formed_read r is_at is_operand named few = rw (← is_at, ← is_operand, named, lt-ltb count 1000000 few) refl
+    found_from_over : (fuel pc count : ℕ) → found_from (over bytes pool) begin code fuel pc count ≡ found_from pool begin code fuel pc count
+    unfolding found_from
+    found_from_over zero pc count = refl
+    found_from_over (suc fuel) pc count = go (eqb (length code) pc) (λ next. here next (λ n. found_from_over fuel next n))
+      where
+        more : Entries → ℕ → Result Found ClassFault
+        more p next = found_at p begin code pc count >>= λ x. (found_from p begin code fuel next (count + length x.sites) >>= λ others. Ok (both x others))
 
-  -- What it names is broken, or there was no memory for it.
-  pub sites_broken : (e : ReadError ClassFault) → at ≡ begin + pc → op ≡ get_or code pc 0 → operand ≡ operand_at code pc → is_unread op ≡ false → Some form ≡ site_form op
-      → Fails e (target_of pool form.named at operand) → Fails e (sites_at (over bytes pool) begin code pc count)
-  sites_broken errors.NoMemory is_at is_op is_operand known form_is broken = tt
-  sites_broken (errors.Fault f) is_at is_op is_operand known form_is broken = formed is_op known form_is ∙ rw (formed_broken f is_at is_operand broken) refl
+        here : (next : ℕ) → ((n : ℕ) → found_from (over bytes pool) begin code fuel next n ≡ found_from pool begin code fuel next n) → more (over bytes pool) next ≡ more pool next
+        here next same = rw (found_at_over pc count) (bind_alike (found_at pool begin code pc count) _ _ (λ (x : Found). rw (same (count + length x.sites)) refl))
 
-  pub sites_past : (r : Ref) → at ≡ begin + pc → op ≡ get_or code pc 0 → operand ≡ operand_at code pc → is_unread op ≡ false → Some form ≡ site_form op → target_of pool form.named at operand ≡ Ok r
-      → 1000000 ≤ count → sites_at (over bytes pool) begin code pc count ≡ Err (fault at 0 ManySites)
-  sites_past r is_at is_op is_operand known form_is named many = formed is_op known form_is ∙ rw (formed_past r is_at is_operand named many) refl
+        go : (end : Bool) → ((next : ℕ) → more (over bytes pool) next ≡ more pool next)
+            → (if end then Ok nothing else (at_opcode (begin + pc) (next_at code pc) >>= more (over bytes pool))) ≡ (if end then Ok nothing else (at_opcode (begin + pc) (next_at code pc) >>= more pool))
+        go true same = refl
+        go false same = bind_alike (at_opcode (begin + pc) (next_at code pc)) _ _ same
 
-  pub site_read : (r : Ref) → at ≡ begin + pc → op ≡ get_or code pc 0 → operand ≡ operand_at code pc → is_unread op ≡ false → Some form ≡ site_form op → target_of pool form.named at operand ≡ Ok r
-      → count < 1000000 → sites_at (over bytes pool) begin code pc count ≡ Ok (record { pc = pc; kind = form.kind; target = r } ∷ [])
-  site_read r is_at is_op is_operand known form_is named few = formed is_op known form_is ∙ rw (formed_read r is_at is_operand named few) refl
+    pub found_over : (count : ℕ) → found_of (over bytes pool) begin code count ≡ found_of pool begin code count
+    found_over count = found_from_over (1 + length code) 0 count

@@ -1,23 +1,25 @@
 -- Bundles: what they are, and how they are read.
-use Rattle.std.specs.Prelude.{◌≡◌, ◌≢◌, ℕ, ◌+◌, ◌-◌, ◌<◌, ◌≤◌, ◌^◌, List, [], ◌∷◌, ◌++◌, length, map, Bool, true, not, ◌&&◌, nat_eq, nat_le, Option, Some, None, Result, Ok, Err, ◌==◌, if◌then◌else◌}
+use Rattle.std.specs.Prelude.{◌≡◌, ◌≢◌, ℕ, ◌+◌, ◌-◌, ◌<◌, ◌≤◌, ◌^◌, List, [], ◌∷◌, ◌++◌, length, map, min, sum_by, Bool, true, false, not, nat_eq, nat_le, Option, Some, None, Result, Ok, Err, ◌==◌, if◌then◌else◌}
 use Rattle.std.specs.List.{concat, flat_map, list_any, starts_with, AllPairs, AllZip}
 use Rattle.std.specs.Cmp.Lexicographic.{pointwise}
 use Rattle.fcg_grammar.specs.Spell.{u2, u4}
-use Rattle.fcg_grammar.specs.Number.{u2_at, u4_at, part_at}
+use Rattle.fcg_grammar.specs.Number as number
 use Rattle.fcg_grammar.specs.Reading.{◌>>=◌, unless_broken}
 use Rattle.fcg_grammar.specs.Rows.{rows}
 use Rattle.fcg_views.specs.declared.view.View.{View}
 use Rattle.fcg_views.specs.declared.fault.ClassFault.{ClassFault}
 use Rattle.fcg_views.specs.Reads.{Reads}
-use Rattle.fcg_views.specs.Valid.{site_count, sites_of_all}
+use Rattle.fcg_views.specs.Valid.{site_count}
 use Rattle.fcg_views.specs.Breaks.Class.{class_of}
 use Rattle.fcg_class.specs.declared.bundle.BundleFault.{BundleFault}
-use Rattle.fcg_class.specs.declared.bundle.BundleFault.TheVariants.{Jar, NotBuilt}
-use Rattle.fcg_class.specs.Path.{is_path, is_class_path}
+use Rattle.fcg_class.specs.declared.bundle.BundleFault.TheVariants.{Jar, Bundle, Class}
+use Rattle.fcg_class.specs.declared.bundle.BundleRule.{BundleRule}
+use Rattle.fcg_class.specs.declared.bundle.BundleRule.TheVariants.{Magic, Version, Cut, Path, Trailing, ManySites}
+use Rattle.fcg_class.specs.Path.{is_path_length, is_path, is_class_path, is_versioned}
 
 -- ==== what they are
 
--- an entry: a path, and the bytes of a class file
+-- an entry: a path, and its bytes
 pub record Entry : Type 0 where
   pub path : List ℕ
   pub body : List ℕ
@@ -29,51 +31,86 @@ entry e = concat (u2 (length e.path) ∷ e.path ∷ u4 (length e.body) ∷ e.bod
 abbrev pub bundle : List Entry → List ℕ
 bundle entries = concat (u4 0x46434742 ∷ u2 1 ∷ u4 (length entries) ∷ flat_map entry entries ∷ [])
 
--- the entry's body is a class file with this view, or a module's, which has none
+-- what an entry holds: a class file with a view, or a module's, which has none; or what is passed over
+abbrev pub Holds : Bool → List ℕ → Option View → Type 0
+Holds false body r = r ≡ None
+Holds true body r = Reads body r
+
 pub record IsEntryOf (e : Entry) (r : Option View) : Type 0 where
   pub path : is_path e.path ≡ true
-  pub class : is_class_path e.path ≡ true
   pub few : length e.body < 2 ^ 32
-  pub reads : Reads e.body r
+  pub holds : Holds (is_class_path e.path) e.body r
 
 abbrev pub some_of : Option View → List View
 some_of None = []
 some_of (Some v) = v ∷ []
 
--- the views among these
-abbrev pub views_of : List (Option View) → List View
-views_of reads = flat_map some_of reads
+-- the views that a bundle shows: not those of later versions of the platform
+abbrev pub shown : List ℕ → Option View → Option View
+shown path r = if is_versioned path then None else r
 
--- The bytes are a bundle, and these are the views of its class files but modules, in its order.
+abbrev pub views_of : List Entry → List (Option View) → List View
+views_of [] rs = []
+views_of (e ∷ es) [] = []
+views_of (e ∷ es) (r ∷ rs) = some_of (shown e.path r) ++ views_of es rs
+
+-- the sites of a view, where there is one
+abbrev pub sites_in : Option View → ℕ
+sites_in None = 0
+sites_in (Some v) = site_count v.methods
+
+-- The bytes are a bundle, and it shows these views, in its order.
 pub record Content (bytes : List ℕ) (views : List View) : Type 0 where
   pub entries : List Entry
   pub spelled : bytes ≡ bundle entries
-  pub few : length entries < 2 ^ 32
+  pub many : length entries < 2 ^ 32
   pub reads : List (Option View)
   pub each : AllZip IsEntryOf entries reads
-  pub views_are : views ≡ views_of reads
+  pub views_are : views ≡ views_of entries reads
   pub distinct : AllPairs (λ p q. p ≢ q) (map (λ e. e.path) entries)
-  pub few_sites : sites_of_all views ≤ 4000000
+  pub few_sites : sum_by sites_in reads ≤ 4000000
 
--- ==== how they are read: each fault but that of a jar is told alike
+-- ==== how they are read: from front to back, up to the first item that breaks its rule
 
-unfoldable pub path_at : List ℕ → ℕ → Result (List ℕ × ℕ) BundleFault
-path_at bytes at = do
-  n ← u2_at NotBuilt bytes at
-  path ← part_at NotBuilt bytes (at + 2) n
-  kept ← unless_broken (is_path path && is_class_path path) NotBuilt
+-- The fault at a place of an entry, where the entries are counted from 0. A place or a number that is too large for its
+-- field is given as the field's last value.
+abbrev pub broken : ℕ → ℕ → BundleRule → BundleFault
+broken at k rule = Bundle (min at (2 ^ 32 - 1)) (min k (2 ^ 32 - 1)) rule
+
+abbrev pub u2_at : List ℕ → ℕ → ℕ → Result ℕ BundleFault
+u2_at bytes k at = number.u2_at (broken at k Cut) bytes at
+
+abbrev pub u4_at : List ℕ → ℕ → ℕ → Result ℕ BundleFault
+u4_at bytes k at = number.u4_at (broken at k Cut) bytes at
+
+abbrev pub part_at : List ℕ → ℕ → ℕ → ℕ → Result (List ℕ) BundleFault
+part_at bytes k at n = number.part_at (broken at k Cut) bytes at n
+
+-- the path whose length stands at a place, and the place after it
+unfoldable pub path_at : List ℕ → ℕ → ℕ → Result (List ℕ × ℕ) BundleFault
+path_at bytes k at = do
+  n ← u2_at bytes k at
+  sized ← unless_broken (is_path_length n) (broken at k Path)
+  path ← part_at bytes k (at + 2) n
+  kept ← unless_broken (is_path path) (broken (at + 2) k Path)
   Ok (path, at + 2 + n)
 
-abbrev pub built : {A : Type 0} → Result A ClassFault → Result A BundleFault
-built (Ok x) = Ok x
-built (Err f) = Err NotBuilt
+-- a fault of an entry's class file
+abbrev pub in_entry : {A : Type 0} → ℕ → Result A ClassFault → Result A BundleFault
+in_entry k (Ok x) = Ok x
+in_entry k (Err f) = Err (Class (min k (2 ^ 32 - 1)) f)
 
-unfoldable pub body_at : List ℕ → ℕ → Result (Option View × ℕ) BundleFault
-body_at bytes at = do
-  n ← u4_at NotBuilt bytes at
-  body ← part_at NotBuilt bytes (at + 4) n
-  view ← built (class_of body)
-  Ok (view, at + 4 + n)
+-- what an entry's bytes hold, by whether they are a class file's
+abbrev pub held : ℕ → Bool → List ℕ → Result (Option View) BundleFault
+held k false body = Ok None
+held k true body = in_entry k (class_of body)
+
+unfoldable pub body_at : List ℕ → ℕ → List ℕ → ℕ → Result (Option View × ℕ) BundleFault
+body_at bytes k path at = do
+  n ← u4_at bytes k at
+  body ← part_at bytes k (at + 4) n
+  read ← held k (is_class_path path) body
+  Ok (read, at + 4 + n)
 
 abbrev pub is_same : List ℕ → List ℕ → Bool
 is_same p q = pointwise nat_eq p q
@@ -84,30 +121,26 @@ pub record Begun : Type 0 where
   pub paths : List (List ℕ)
   pub room : ℕ
 
--- the sites of a view, where there is one
-abbrev pub sites_in : Option View → ℕ
-sites_in None = 0
-sites_in (Some v) = site_count v.methods
-
+-- the view that an entry shows
 unfoldable pub entry_at : List ℕ → ℕ → Begun → Result (Option View × Begun) BundleFault
 entry_at bytes k begun = do
-  path ← path_at bytes begun.at
-  fresh ← unless_broken (not (list_any (λ p. is_same p path.0) begun.paths)) NotBuilt
-  body ← body_at bytes path.1
-  few ← unless_broken (nat_le (sites_in body.0) begun.room) NotBuilt
-  Ok (body.0, record { at = body.1; paths = begun.paths ++ path.0 ∷ []; room = begun.room - sites_in body.0 })
+  path ← path_at bytes k begun.at
+  fresh ← unless_broken (not (list_any (λ p. is_same p path.0) begun.paths)) (broken (begun.at + 2) k Path)
+  body ← body_at bytes k path.0 path.1
+  few ← unless_broken (nat_le (sites_in body.0) begun.room) (broken (path.1 + 4) k ManySites)
+  Ok (shown path.0 body.0, record { at = body.1; paths = begun.paths ++ path.0 ∷ []; room = begun.room - sites_in body.0 })
 
 -- FCGB, version 1, the entries, and nothing after them
 unfoldable pub entries_of : List ℕ → Result (List View) BundleFault
 entries_of bytes = do
-  magic ← u4_at NotBuilt bytes 0
-  begun ← unless_broken (magic == 0x46434742) NotBuilt
-  version ← u2_at NotBuilt bytes 4
-  known ← unless_broken (version == 1) NotBuilt
-  count ← u4_at NotBuilt bytes 6
+  magic ← u4_at bytes 0 0
+  begun ← unless_broken (magic == 0x46434742) (broken 0 0 Magic)
+  version ← u2_at bytes 0 4
+  known ← unless_broken (version == 1) (broken 4 0 Version)
+  count ← u4_at bytes 0 6
   read ← rows (entry_at bytes) count 0 (record { at = 10; paths = []; room = 4000000 })
-  ended ← unless_broken (length bytes == read.1.at) NotBuilt
-  Ok (views_of read.0)
+  ended ← unless_broken (length bytes == read.1.at) (broken read.1.at count Trailing)
+  Ok (flat_map some_of read.0)
 
 -- `PK`, 3, 4
 abbrev pub is_jar : List ℕ → Bool

@@ -1,7 +1,7 @@
 -- What the reader of a bundle's entries answers.
 use Rattle.std.specs.Prelude.{◌≡◌, ℕ, List, [], ◌∷◌, ◌++◌, Option, Result, Ok, Err}
 use Rattle.std.specs.Borrow.{Bor}
-use Rattle.std.specs.List.{list_any}
+use Rattle.std.specs.List.{flat_map, list_any}
 use Rattle.std.specs.Ordering.{nat_cmp}
 use Rattle.std.specs.declared.cmp.Ordering.{Ordering}
 use Rattle.std.specs.Cmp.Lexicographic.{slice_cmp}
@@ -14,8 +14,8 @@ use Rattle.fcg_views.specs.declared.view.View.{View}
 use Rattle.fcg_views.specs.declared.fault.ClassFault.{ClassFault}
 use Rattle.fcg_class.specs.declared.bundle.Ahead.{Ahead}
 use Rattle.fcg_class.specs.declared.bundle.BundleFault.{BundleFault}
-use Rattle.fcg_class.specs.declared.bundle.BundleFault.TheVariants.{NotBuilt}
-use Rattle.fcg_class.specs.Bundle.{views_of, Begun, is_same}
+use Rattle.fcg_class.specs.declared.bundle.BundleFault.TheVariants.{Class}
+use Rattle.fcg_class.specs.Bundle.{some_of, Begun, is_same}
 
 abbrev pub path_cmp : Bor (List ℕ) → Bor (List ℕ) → Ordering
 path_cmp x y = slice_cmp nat_cmp x.now y.now
@@ -24,7 +24,7 @@ path_cmp x y = slice_cmp nat_cmp x.now y.now
 abbrev pub ArePaths : BTreeSet (Bor (List ℕ)) → List (List ℕ) → Type 0
 ArePaths set paths = (p : Bor (List ℕ)) → tree.contains path_cmp set p ≡ list_any (λ q. is_same q p.now) paths
 
--- before an entry: its place, the number of sites that the views may still have, and the paths of those before
+-- before an entry: its place, the number of sites that the class files may still have, and the paths of those before
 abbrev pub begun : Ahead → List (List ℕ) → Begun
 begun ahead paths = record { at = ahead.at; paths = paths; room = ahead.room }
 
@@ -36,12 +36,12 @@ abbrev pub GivesEntry : Result (Option View × Ahead) (ReadError BundleFault) �
 GivesEntry (Ok x) set paths read = (path : List ℕ) × ArePaths set (paths ++ path ∷ []) × (read ≡ Ok (x.0, begun x.1 (paths ++ path ∷ [])))
 GivesEntry (Err e) set paths read = Fails e read
 
--- the fault of a bundle in which a class file is broken
-abbrev pub told : ReadError ClassFault → ReadError BundleFault
-told errors.NoMemory = errors.NoMemory
-told (errors.Fault f) = errors.Fault NotBuilt
+-- what a bundle is told of an error of an entry's class file
+abbrev pub told : ℕ → ReadError ClassFault → ReadError BundleFault
+told k errors.NoMemory = errors.NoMemory
+told k (errors.Fault f) = errors.Fault (Class k f)
 
--- The views of some entries, and the place after them, whatever their paths; or the fault.
+-- The views that some entries show, and the place after them, whatever their paths; or the fault.
 abbrev pub GivesEntries : Result (List View × ℕ) (ReadError BundleFault) → Result (List (Option View) × Begun) BundleFault → Type 0
-GivesEntries (Ok x) read = (reads : List (Option View)) × (paths : List (List ℕ)) × (room : ℕ) × (x.0 ≡ views_of reads) × (read ≡ Ok (reads, record { at = x.1; paths = paths; room = room }))
+GivesEntries (Ok x) read = (reads : List (Option View)) × (paths : List (List ℕ)) × (room : ℕ) × (x.0 ≡ flat_map some_of reads) × (read ≡ Ok (reads, record { at = x.1; paths = paths; room = room }))
 GivesEntries (Err e) read = Fails e read

@@ -1,27 +1,29 @@
 -- What the reader of sites answers.
-use Rattle.std.specs.Prelude.{List, [], ◌∷◌, ◌==◌, Option, Some, None}
+use Rattle.std.specs.Prelude.{[], ◌∷◌, ◌==◌, Option, Some, None}
 use Rattle.fcg_views.specs.declared.view.Ref.{Ref}
-use Rattle.fcg_views.specs.declared.view.Site.{Site}
 use Rattle.fcg_views.specs.Sites as sites
 use Rattle.fcg_pool.specs.declared.pool.RefTexts.{RefTexts}
-use Rattle.fcg_class.specs.declared.site.Named.{Named}
-use Rattle.fcg_class.specs.declared.site.Named.TheVariants.{Method, Field, Class}
+use Rattle.fcg_class.specs.declared.site.Target.{Target}
+use Rattle.fcg_class.specs.declared.site.Target.TheVariants.{Method, Field, «Type»}
 use Rattle.fcg_class.specs.declared.site.SiteForm.{SiteForm}
+use Rattle.fcg_class.specs.declared.site.SiteOrCall.{SiteOrCall}
+use Rattle.fcg_class.specs.declared.site.SiteOrCall.TheVariants.{Nothing, Site as OneSite, Call as OneCall}
 
--- the sites of an instruction that has one, or none
-abbrev pub site_list : Option Site → List Site
-site_list None = []
-site_list (Some s) = s ∷ []
+-- what an instruction has
+abbrev pub found_in : SiteOrCall → sites.Found
+found_in Nothing = sites.nothing
+found_in (OneSite s) = record { sites = s ∷ []; calls = [] }
+found_in (OneCall c) = record { sites = []; calls = c ∷ [] }
 
 -- what a site names, as that of the definition
-abbrev pub named_in : Named → sites.Named
-named_in (Method tags) = sites.Method tags.now
-named_in Field = sites.Field
-named_in Class = sites.Class
+abbrev pub target_in : Target → sites.Target
+target_in (Method tags) = sites.ToMethod tags.now
+target_in Field = sites.ToField
+target_in «Type» = sites.ToType
 
 -- the form of the code, as that of the definition
 abbrev pub form_in : SiteForm → sites.SiteForm
-form_in form = record { kind = form.kind; named = named_in form.named }
+form_in form = record { kind = form.kind; target = target_in form.target }
 
 abbrev pub form_seen : Option SiteForm → Option sites.SiteForm
 form_seen None = None

@@ -1,49 +1,21 @@
 //! Attributes (JVMS 4.7).
-ghost use Rattle.std.specs.Prelude.{◌≡◌, ◌≤◌, ◌+◌, ℕ, length, OnOk, IfOk};
+ghost use Rattle.std.specs.Prelude.{◌≡◌, ◌≤◌, ◌+◌, ℕ, length, IfOk};
 ghost use Rattle.fcg_grammar.specs.Reading.{seen};
 ghost use Rattle.fcg_grammar.specs.Rows.{rows, ended};
 ghost use Rattle.fcg_views.specs.Breaks.Pool.{Entries};
-ghost use Rattle.fcg_views.specs.Breaks.Words.{is_code, is_known};
-ghost use Rattle.fcg_views.specs.Breaks.Attributes.{over, named_at, content_at, attribute_at, attributes_at};
+ghost use Rattle.fcg_views.specs.Breaks.Words.{is_same};
+ghost use Rattle.fcg_views.specs.Breaks.Attributes.{over, content_at, attribute_at, attributes_at};
+ghost use Rattle.fcg_class.specs.Attributes.{begun_one};
 
 use crate::number::{read_part, read_u2, read_u4};
 use crate::text::find_text;
 use fcg_pool::Pool;
 use fcg_views::{ClassFault, ClassRule, fault_at};
 
-// Whether attributes of this name are read.
-fn is_known(name: &[u8]) -> bool
-    ensures { result ≡ is_known name.now }
-{
-    name != b"BootstrapMethods".as_slice()
-}
-
-/// Whether a method's attribute of this name is its code (JVMS 4.7.3).
-pub fn is_code(name: &[u8]) -> bool
-    ensures { result ≡ is_code name.now }
-{
-    name == b"Code".as_slice()
-}
-
-/// The name of the attribute that stands at a place of some bytes of the file. An attribute BootstrapMethods isn't read
-/// yet: it is the fault `NotBuilt`.
-#[tactic(auto, unfolding(fcg_views::specs::Breaks::Attributes::named_at))]
-pub fn find_named<'a>(pool: &Pool<'a>, bytes: &[u8], at: usize) -> Result<&'a [u8], ClassFault>
-    requires { at ≤ length bytes.now }
-    ensures value { seen (λ name. name.now) result ≡ named_at (over bytes.now pool.now) at }
-    ensures inside { OnOk result (at + 2 ≤ length bytes.now) }
-{
-    let name = find_text(pool, bytes, at)?;
-    if !is_known(name.bytes) {
-        return Err(fault_at(at, 0, ClassRule::NotBuilt));
-    }
-    Ok(name.bytes)
-}
-
-/// The place after the content of the attribute that stands at a place. The content's length, in bytes, stands behind
-/// the name; a content that passes the end of the bytes is the fault `Cut`.
+// The place after the content of the attribute that stands at a place. The content's length, in bytes, stands behind
+// the name; a content that passes the end of the bytes is the fault `Cut`.
 #[tactic(auto, unfolding(fcg_views::specs::Breaks::Attributes::content_at))]
-pub fn pass_content(bytes: &[u8], at: usize) -> Result<usize, ClassFault>
+fn pass_content(bytes: &[u8], at: usize) -> Result<usize, ClassFault>
     requires { at + 2 ≤ length bytes.now }
     ensures value { (pool : Entries) → result ≡ content_at (over bytes.now pool) at }
     ensures inside { IfOk result (λ after. (at + 6 ≤ after) × (after ≤ length bytes.now)) }
@@ -60,7 +32,7 @@ fn pass_attribute(pool: &Pool<'_>, bytes: &[u8], at: usize) -> Result<usize, Cla
     ensures value { (k : ℕ) → seen (λ after. (tt, after)) result ≡ attribute_at (over bytes.now pool.now) k at }
     ensures inside { IfOk result (λ after. after ≤ length bytes.now) }
 {
-    find_named(pool, bytes, at)?;
+    find_text(pool, bytes, at)?;
     pass_content(bytes, at)
 }
 
@@ -78,7 +50,7 @@ fn pass_rows(pool: &Pool<'_>, bytes: &[u8], count: u16, at: usize) -> Result<usi
 }
 
 /// The place after the attributes whose count stands at a place of some bytes of the file. They are passed over by
-/// their lengths: each takes a few loads and a comparison of its name, whatever the length of its content.
+/// their lengths: each takes a few loads, whatever the length of its content.
 #[tactic(auto, unfolding(fcg_views::specs::Breaks::Attributes::attributes_at))]
 pub fn pass_attributes(pool: &Pool<'_>, bytes: &[u8], at: usize) -> Result<usize, ClassFault>
     requires { at ≤ length bytes.now }
@@ -87,4 +59,37 @@ pub fn pass_attributes(pool: &Pool<'_>, bytes: &[u8], at: usize) -> Result<usize
 {
     let count = read_u2(bytes, at, 0)?;
     pass_rows(pool, bytes, count, at + 2)
+}
+
+// Whether a name is a word.
+fn is_same(name: &[u8], word: &[u8]) -> bool
+    ensures { result ≡ is_same name.now word.now }
+{
+    name == word
+}
+
+/// Whether the attribute that stands at a place of some bytes of the file has the name `word`, and the place after its
+/// content. `again` says that an attribute of this name stood before: then a second one is the fault `twice` at its
+/// name. Its content, from six bytes after its place on, isn't looked at. Takes a few loads and a comparison of its
+/// name.
+#[tactic(auto, unfolding(crate::specs::Attributes::begun_one))]
+pub fn begin_one(
+    pool: &Pool<'_>,
+    bytes: &[u8],
+    at: usize,
+    word: &[u8],
+    twice: ClassRule,
+    again: bool,
+) -> Result<(bool, usize), ClassFault>
+    requires { at ≤ length bytes.now }
+    ensures value { result ≡ begun_one (over bytes.now pool.now) at word.now twice again }
+    ensures inside { IfOk result (λ x. (at + 6 ≤ x.1) × (x.1 ≤ length bytes.now)) }
+{
+    let name = find_text(pool, bytes, at)?;
+    let named = is_same(name.bytes, word);
+    if named && again {
+        return Err(fault_at(at, 0, twice));
+    }
+    let after = pass_content(bytes, at)?;
+    Ok((named, after))
 }

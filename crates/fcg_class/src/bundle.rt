@@ -5,10 +5,11 @@ ghost use Rattle.fcg_grammar.specs.Reading.{seen, Gives};
 ghost use Rattle.fcg_grammar.specs.Rows.{rows};
 ghost use Rattle.fcg_views.specs.Valid.{IsValid, left_of};
 ghost use Rattle.fcg_class.specs.Entries.{told, begun, start, ArePaths, GivesEntry, GivesEntries};
-ghost use Rattle.fcg_class.specs.Bundle.{Content, some_of, sites_in, path_at, body_at, entry_at, entries_of, bundle_of, is_jar};
+ghost use Rattle.fcg_class.specs.Bundle.{Content, broken, some_of, shown, sites_in, held, path_at, body_at, entry_at, entries_of, bundle_of, is_jar};
+ghost use Rattle.fcg_class.specs.Path.{is_class_path};
 
 use crate::class::read_class;
-use crate::path::{is_class_path, is_path};
+use crate::path::{is_class_path, is_path, is_path_length, is_versioned};
 use fcg_grammar::{ReadError, read_part, read_u2, read_u4};
 use fcg_views::{ClassFault, View, Views, sites_left};
 use std::alloc::{AllocError, Global};
@@ -17,14 +18,45 @@ use std::collections::BTreeSet;
 // The most sites of the views of a bundle.
 const MOST_SITES: usize = 4_000_000;
 
-/// Why bytes are refused as a bundle.
+/// A rule of bundles that bytes break.
+#[derive(Clone, Copy, Debug, PartialEq, Eq)]
+pub enum BundleRule {
+    /// The first four bytes aren't `FCGB`.
+    Magic,
+    /// The version isn't 1.
+    Version,
+    /// A number or a string of bytes passes the end of the bytes.
+    Cut,
+    /// A path has no byte or more than 1,024, a byte or a part that it may not have, or is equal to an earlier one.
+    Path,
+    /// Bytes stand after the last entry.
+    Trailing,
+    /// The class files of the entries read so far have more than 4,000,000 sites.
+    ManySites,
+}
+
+/// Why bytes are refused as a bundle: the first fault in the order in which they are read.
 #[derive(Clone, Copy, Debug, PartialEq, Eq)]
 pub enum BundleFault {
     /// The bytes begin as a jar does, with `504b0304`.
     Jar,
-    /// The bytes are no bundle, or hold what isn't read yet: an entry that is no class file, or a class file with a
-    /// fault or with what isn't read yet.
-    NotBuilt,
+    /// A rule of bundles is broken.
+    Bundle {
+        /// The place of the item that breaks the rule, in bytes from the start. A place that is too large is given as
+        /// the last value.
+        offset: u32,
+        /// The number of the entry that was in hand, from 0; 0 before the first, and the number of entries after the
+        /// last.
+        entry: u32,
+        rule: BundleRule,
+    },
+    /// An entry's class file has a fault.
+    Class {
+        /// The number of the entry, from 0.
+        entry: u32,
+        /// The fault, with its place in the entry's bytes.
+        fault: ClassFault,
+    },
 }
 
 impl From<BundleFault> for ReadError<BundleFault> {
@@ -37,58 +69,92 @@ impl From<BundleFault> for ReadError<BundleFault> {
     }
 }
 
-// The fault of the bundle in which a class file was not read.
-fn tell(error: ReadError<ClassFault>) -> ReadError<BundleFault>
-    ensures { result ≡ told error }
+// The fault of a rule that is broken at a place, in the entry in hand.
+fn fault_at(at: usize, entry: u32, rule: BundleRule) -> BundleFault
+    ensures { result ≡ broken at entry rule }
+{
+    BundleFault::Bundle {
+        offset: u32::try_from(at).unwrap_or(u32::MAX),
+        entry,
+        rule,
+    }
+}
+
+// What the bundle is told of an error of an entry's class file.
+fn tell(entry: u32, error: ReadError<ClassFault>) -> ReadError<BundleFault>
+    ensures { result ≡ told entry error }
 {
     match error {
         ReadError::NoMemory => ReadError::NoMemory,
-        ReadError::Fault(_) => ReadError::Fault(BundleFault::NotBuilt),
+        ReadError::Fault(fault) => ReadError::Fault(BundleFault::Class { entry, fault }),
     }
 }
 
 // The path of the entry that stands at a place, and the place after it.
 #[tactic(auto, unfolding(crate::specs::Bundle::path_at))]
-fn read_path(bytes: &[u8], at: usize) -> Result<(&[u8], usize), BundleFault>
+fn read_path(bytes: &[u8], entry: u32, at: usize) -> Result<(&[u8], usize), BundleFault>
     requires { at ≤ length bytes.now }
-    ensures value { seen (λ x. (x.0.now, x.1)) result ≡ path_at bytes.now at }
+    ensures value { seen (λ x. (x.0.now, x.1)) result ≡ path_at bytes.now entry at }
     ensures inside { IfOk result (λ x. x.1 ≤ length bytes.now) }
 {
-    let len = usize::from(read_u2(bytes, at, BundleFault::NotBuilt)?);
-    let path = read_part(bytes, at + 2, len, BundleFault::NotBuilt)?;
-    if !is_path(path) || !is_class_path(path) {
-        return Err(BundleFault::NotBuilt);
+    let len = usize::from(read_u2(bytes, at, fault_at(at, entry, BundleRule::Cut))?);
+    if !is_path_length(len) {
+        return Err(fault_at(at, entry, BundleRule::Path));
+    }
+    let path = read_part(bytes, at + 2, len, fault_at(at + 2, entry, BundleRule::Cut))?;
+    if !is_path(path) {
+        return Err(fault_at(at + 2, entry, BundleRule::Path));
     }
     Ok((path, at + 2 + len))
 }
 
-// The view of the class file whose length stands at a place, which a module has not, and the place after it.
+// The view of the class file that an entry's bytes are. A module has none, nor has what is no class file.
+fn read_held(
+    alloc: Global,
+    entry: u32,
+    path: &[u8],
+    body: &[u8],
+) -> Result<Option<View>, ReadError<BundleFault>>
+    ensures { Gives (λ x. x) result (held entry (is_class_path path.now) body.now) }
+{
+    if !is_class_path(path) {
+        return Ok(None);
+    }
+    match read_class(alloc, body) {
+        Ok(view) => Ok(view),
+        Err(error) => Err(tell(entry, error)),
+    }
+}
+
+// The view of the entry whose bytes' length stands at a place, where it has one, and the place after it.
 #[tactic(auto, unfolding(crate::specs::Bundle::body_at))]
 fn read_body(
     alloc: Global,
     bytes: &[u8],
+    entry: u32,
+    path: &[u8],
     at: usize,
 ) -> Result<(Option<View>, usize), ReadError<BundleFault>>
     requires { at ≤ length bytes.now }
-    ensures value { Gives (λ x. (x.0, x.1)) result (body_at bytes.now at) }
+    ensures value { Gives (λ x. (x.0, x.1)) result (body_at bytes.now entry path.now at) }
     ensures inside { IfOk result (λ x. x.1 ≤ length bytes.now) }
 {
-    let len = read_u4(bytes, at, BundleFault::NotBuilt)? as usize;
-    let body = read_part(bytes, at + 4, len, BundleFault::NotBuilt)?;
-    match read_class(alloc, body) {
-        Ok(view) => Ok((view, at + 4 + len)),
-        Err(error) => Err(tell(error)),
-    }
+    let len = read_u4(bytes, at, fault_at(at, entry, BundleRule::Cut))? as usize;
+    let body = read_part(bytes, at + 4, len, fault_at(at + 4, entry, BundleRule::Cut))?;
+    let view = read_held(alloc, entry, path, body)?;
+    Ok((view, at + 4 + len))
 }
 
-// What is ahead of the entries that were read: the place of the next, and how many sites the views may still have.
+// What is ahead of the entries that were read: the place of the next, and how many sites the class files may still
+// have.
 #[derive(Clone, Copy)]
 struct Ahead {
     at: usize,
     room: usize,
 }
 
-// How many sites the views may still have after this one, or `None` where it has more than that. A module has none.
+// How many sites the class files may still have after this one, or `None` where it has more than that. What has no view
+// has none.
 fn room_after(room: usize, view: &Option<View>) -> Option<usize>
     ensures { result ≡ left_of room (sites_in view.now) }
 {
@@ -98,26 +164,34 @@ fn room_after(room: usize, view: &Option<View>) -> Option<usize>
     }
 }
 
-// The view of the next entry, and what is ahead after it. Its path is added to those before it.
+// The view of an entry, where it is shown.
+fn show(path: &[u8], view: Option<View>) -> Option<View>
+    ensures { result ≡ shown path.now view }
+{
+    if is_versioned(path) { None } else { view }
+}
+
+// The view that the next entry shows, and what is ahead after it. Its path is added to those before it.
 #[tactic(auto, unfolding(crate::specs::Bundle::entry_at))]
 fn read_entry<'a>(
     alloc: Global,
     bytes: &'a [u8],
+    entry: u32,
     paths: &mut BTreeSet<&'a [u8]>,
     ahead: Ahead,
 ) -> Result<(Option<View>, Ahead), ReadError<BundleFault>>
     requires { ahead.at ≤ length bytes.now }
-    ensures value { (k : ℕ) (before : List (List ℕ)) → ArePaths paths.old before → GivesEntry result paths.new before (entry_at bytes.now k (begun ahead before)) }
+    ensures value { (before : List (List ℕ)) → ArePaths paths.old before → GivesEntry result paths.new before (entry_at bytes.now entry (begun ahead before)) }
     ensures inside { IfOk result (λ x. x.1.at ≤ length bytes.now) }
 {
-    let (path, after) = read_path(bytes, ahead.at)?;
+    let (path, after) = read_path(bytes, entry, ahead.at)?;
     if !paths.insert(path)? {
-        return Err(ReadError::Fault(BundleFault::NotBuilt));
+        return Err(ReadError::Fault(fault_at(ahead.at + 2, entry, BundleRule::Path)));
     }
-    let (view, at) = read_body(alloc, bytes, after)?;
+    let (view, at) = read_body(alloc, bytes, entry, path, after)?;
     match room_after(ahead.room, &view) {
-        Some(room) => Ok((view, Ahead { at, room })),
-        None => Err(ReadError::Fault(BundleFault::NotBuilt)),
+        Some(room) => Ok((show(path, view), Ahead { at, room })),
+        None => Err(ReadError::Fault(fault_at(after + 4, entry, BundleRule::ManySites))),
     }
 }
 
@@ -131,7 +205,7 @@ fn push_view(views: &mut Vec<View>, view: Option<View>) -> Result<(), AllocError
     Ok(())
 }
 
-// The views of so many entries, and the place after them.
+// The views that so many entries show, and the place after them.
 fn read_entries(
     alloc: Global,
     bytes: &[u8],
@@ -148,8 +222,8 @@ fn read_entries(
         at,
         room: MOST_SITES,
     };
-    for _ in 0..count {
-        let (view, after) = read_entry(alloc, bytes, &mut paths, ahead)?;
+    for entry in 0..count {
+        let (view, after) = read_entry(alloc, bytes, entry, &mut paths, ahead)?;
         push_view(&mut views, view)?;
         ahead = after;
     }
@@ -161,16 +235,16 @@ fn read_entries(
 fn read_plain(alloc: Global, bytes: &[u8]) -> Result<Views, ReadError<BundleFault>>
     ensures { Gives (λ views. views) result (entries_of bytes.now) }
 {
-    if read_u4(bytes, 0, BundleFault::NotBuilt)? != 0x4643_4742 {
-        return Err(ReadError::Fault(BundleFault::NotBuilt));
+    if read_u4(bytes, 0, fault_at(0, 0, BundleRule::Cut))? != 0x4643_4742 {
+        return Err(ReadError::Fault(fault_at(0, 0, BundleRule::Magic)));
     }
-    if read_u2(bytes, 4, BundleFault::NotBuilt)? != 1 {
-        return Err(ReadError::Fault(BundleFault::NotBuilt));
+    if read_u2(bytes, 4, fault_at(4, 0, BundleRule::Cut))? != 1 {
+        return Err(ReadError::Fault(fault_at(4, 0, BundleRule::Version)));
     }
-    let count = read_u4(bytes, 6, BundleFault::NotBuilt)?;
+    let count = read_u4(bytes, 6, fault_at(6, 0, BundleRule::Cut))?;
     let (views, end) = read_entries(alloc, bytes, count, 10)?;
     if bytes.len() != end {
-        return Err(ReadError::Fault(BundleFault::NotBuilt));
+        return Err(ReadError::Fault(fault_at(end, count, BundleRule::Trailing)));
     }
     Ok(views)
 }
@@ -186,13 +260,15 @@ fn read_whole(alloc: Global, bytes: &[u8]) -> Result<Views, ReadError<BundleFaul
     read_plain(alloc, bytes)
 }
 
-/// The views of a bundle's class files, in the bundle's order. A bundle begins with `FCGB`, the version 1 in two bytes
-/// and the number of its entries in four. An entry is a path of two bytes' length, and a class file (JVMS 4) of four
-/// bytes' length. The paths end in `.class`, and no two are equal.
+/// The views that a bundle shows, in the bundle's order. A bundle begins with `FCGB`, the version 1 in two bytes and the
+/// number of its entries in four. An entry is a path of two bytes' length, and a body of four bytes' length. No two paths
+/// are equal. The body of a path that ends `.class` is a class file (JVMS 4); all others are passed over. A class file
+/// below `META-INF/versions/` is read as any other, but not shown.
 ///
-/// The error is [`BundleFault::Jar`] for bytes that begin as a jar does, and [`BundleFault::NotBuilt`] for all others
-/// that are no bundle, or whose class files have a fault or hold what isn't read yet. It is
-/// [`ReadError::NoMemory`] where memory ran out.
+/// The error is the first fault in the order of reading: [`BundleFault::Jar`] for bytes that begin as a jar does, else
+/// [`BundleFault::Bundle`] for a broken rule of the bundle, with its place in bytes from the start and the number of the
+/// entry in hand, or [`BundleFault::Class`] for a fault of an entry's class file, with its place in bytes from the start
+/// of the entry's body. It is [`ReadError::NoMemory`] where memory ran out.
 ///
 /// It makes one pass over the bytes. For each entry it makes some comparisons of paths more, about the logarithm of the
 /// number of entries, and likewise for each Utf8 of a class file and, of indexes, for each of its methods. Beside the

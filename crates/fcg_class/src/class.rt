@@ -1,14 +1,21 @@
 //! Class files.
-ghost use Rattle.std.specs.Prelude.{◌≡◌, ◌≤◌, ◌+◌, ℕ, length, Option, OnOk, IfOk};
-ghost use Rattle.fcg_grammar.specs.Reading.{Gives};
-ghost use Rattle.fcg_grammar.specs.Rows.{rows};
+ghost use Rattle.std.specs.Prelude.{◌≡◌, ◌≤◌, ◌+◌, ℕ, List, length, codes, Option, None, OnOk, IfOk};
+ghost use Rattle.fcg_grammar.specs.Reading.{seen, Gives};
+ghost use Rattle.fcg_grammar.specs.Rows.{rows, ended};
+ghost use Rattle.fcg_views.specs.declared.fault.ClassRule.TheVariants.{Bootstrap};
+ghost use Rattle.fcg_views.specs.ClassFile.{BootstrapMethod};
+ghost use Rattle.fcg_views.specs.Breaks.Attributes.{one_at, ones_at};
+ghost use Rattle.fcg_views.specs.Breaks.Bootstrap.{rows_at};
 ghost use Rattle.fcg_views.specs.Reads.{Reads};
 ghost use Rattle.fcg_views.specs.Breaks.Fault.{in_pool};
 ghost use Rattle.fcg_views.specs.Breaks.Pool.{pool_at};
-ghost use Rattle.fcg_views.specs.Breaks.Class.{header_kept, type_at, super_at, interface_at, interfaces_at, members_at, body_at, shown, class_of};
+ghost use Rattle.fcg_views.specs.Breaks.Class.{header_kept, type_at, super_at, interface_at, interfaces_at, rows_or_none, members_at, body_at, shown, class_of};
+ghost use Rattle.fcg_class.specs.Class.{rows_said, rows_seen, class_begun, rows_ended, GivesRows};
 
-use crate::attributes::pass_attributes;
+use crate::attributes::begin_one;
+use crate::bootstrap::{Row, read_rows};
 use crate::fields::read_fields;
+use crate::finish::finish_methods;
 use crate::members::read_methods;
 use crate::names::ClassNames;
 use crate::number::{read_u2, read_u4};
@@ -142,6 +149,79 @@ fn read_interfaces(
     Ok((Names::from(interfaces), after))
 }
 
+// The place after the attribute of a class that stands at a place, and the bootstrap methods so far. A second attribute
+// BootstrapMethods is the fault `Bootstrap`.
+fn read_attribute(
+    alloc: Global,
+    pool: &Pool<'_>,
+    at: usize,
+    found: Option<Vec<Row>>,
+) -> Result<(usize, Option<Vec<Row>>), ReadError<ClassFault>>
+    requires { at ≤ length pool.now.bytes }
+    ensures value { (k : ℕ) (read : Option (ℕ × List BootstrapMethod)) → rows_said read ≡ rows_seen found → GivesRows result (one_at (codes "BootstrapMethods") Bootstrap rows_at pool.now k (class_begun at read)) }
+    ensures inside { IfOk result (λ x. x.0 ≤ length pool.now.bytes) }
+{
+    let bytes = pool.bytes();
+    let again = found.is_some();
+    let (named, after) = begin_one(
+        pool,
+        bytes,
+        at,
+        b"BootstrapMethods".as_slice(),
+        ClassRule::Bootstrap,
+        again,
+    )?;
+    if !named {
+        return Ok((after, found));
+    }
+    let rows = read_rows(alloc, &bytes[..after], at + 6)?;
+    Ok((after, Some(rows)))
+}
+
+// The bootstrap methods, or none.
+fn rows_or_none(alloc: Global, found: Option<Vec<Row>>) -> Vec<Row>
+    ensures { (read : Option (ℕ × List BootstrapMethod)) → rows_said read ≡ rows_seen found → result.items ≡ rows_or_none read }
+{
+    match found {
+        Some(rows) => rows,
+        None => Vec::new(alloc),
+    }
+}
+
+// The bootstrap methods among so many attributes of a class, and the place after these.
+fn read_attribute_rows(
+    alloc: Global,
+    pool: &Pool<'_>,
+    attributes: u16,
+    at: usize,
+) -> Result<(Vec<Row>, usize), ReadError<ClassFault>>
+    requires { at ≤ length pool.now.bytes }
+    ensures { Gives (λ x. (x.0.items, x.1)) result (seen rows_ended (ended (rows (one_at (codes "BootstrapMethods") Bootstrap rows_at pool.now) attributes 0 (class_begun at None)))) }
+{
+    let mut place = at;
+    let mut found = None;
+    for _ in 0..attributes {
+        let (after, rows) = read_attribute(alloc, pool, place, found)?;
+        place = after;
+        found = rows;
+    }
+    Ok((rows_or_none(alloc, found), place))
+}
+
+// The bootstrap methods among the attributes of a class whose count stands at a place, and the place after these.
+#[tactic(auto, unfolding(fcg_views::specs::Breaks::Attributes::ones_at))]
+fn read_attributes(
+    alloc: Global,
+    pool: &Pool<'_>,
+    at: usize,
+) -> Result<(Vec<Row>, usize), ReadError<ClassFault>>
+    requires { at ≤ length pool.now.bytes }
+    ensures { Gives (λ x. (x.0.items, x.1)) result (seen rows_ended (ones_at (codes "BootstrapMethods") Bootstrap rows_at pool.now at)) }
+{
+    let attributes = read_u2(pool.bytes(), at, 0)?;
+    read_attribute_rows(alloc, pool, attributes, at + 2)
+}
+
 // The fields and the methods, and what stands after them up to the file's end.
 #[tactic(auto, unfolding(fcg_views::specs::Breaks::Class::members_at))]
 fn read_members(
@@ -154,8 +234,9 @@ fn read_members(
 {
     let pool = names.pool();
     let (fields, methods_at) = read_fields(alloc, names, at)?;
-    let (methods, after) = read_methods(alloc, names, methods_at)?;
-    let end = pass_attributes(pool, pool.bytes(), after)?;
+    let (unfinished, attributes_at) = read_methods(alloc, names, methods_at)?;
+    let (rows, end) = read_attributes(alloc, pool, attributes_at)?;
+    let methods = finish_methods(alloc, names, rows, unfinished)?;
     if pool.bytes().len() != end {
         return Err(ReadError::Fault(fault_at(end, 0, ClassRule::Trailing)));
     }

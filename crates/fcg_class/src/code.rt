@@ -1,21 +1,53 @@
 //! The code of a method (JVMS 4.7.3).
-ghost use Rattle.std.specs.Prelude.{◌≡◌, ◌≤◌, ◌<◌, ◌+◌, ◌^◌, ◌++◌, ℕ, List, length, slice_index, OnOk, IfOk};
+ghost use Rattle.std.specs.Prelude.{◌≡◌, ◌≤◌, ◌<◌, ◌+◌, ◌^◌, ◌++◌, ℕ, length, slice_index, OnOk, IfOk};
 ghost use Rattle.fcg_grammar.specs.Reading.{seen, Gives};
 ghost use Rattle.fcg_grammar.specs.Rows.{rows, ended};
 ghost use Rattle.fcg_views.specs.Breaks.Fault.{at_opcode};
 ghost use Rattle.fcg_views.specs.Breaks.Instructions.{next_at, operand_at};
 ghost use Rattle.fcg_views.specs.Breaks.Attributes.{over};
-ghost use Rattle.fcg_views.specs.Breaks.Code.{sites_of, handler_at, handlers_at, code_at};
-ghost use Rattle.fcg_class.specs.Sites.{site_list};
+ghost use Rattle.fcg_views.specs.Breaks.Code.{found_of, handler_at, handlers_at, code_at};
+ghost use Rattle.fcg_class.specs.Calls.{ArePlaced};
+ghost use Rattle.fcg_class.specs.Sites.{found_in};
 
 use crate::attributes::pass_attributes;
+use crate::calls::CodeCalls;
 use crate::names::ClassNames;
 use crate::number::{read_part, read_u2, read_u4};
-use crate::site::{CodeSpan, read_site};
+use crate::site::{CodeSpan, SiteOrCall, read_site_or_call};
 use fcg_grammar::ReadError;
 use fcg_pool::{Instruction, next_instruction};
-use fcg_views::{ClassFault, ClassRule, Site, Sites, at_opcode, fault_at};
+use fcg_views::{ClassFault, ClassRule, DynamicCall, Site, Sites, at_opcode, fault_at};
 use std::alloc::{AllocError, Global};
+use std::marker::Model;
+
+/// What a method's attribute Code says: the sites of its instructions, and its calls of bootstrap methods.
+#[derive(Drop)]
+pub struct MethodCode {
+    sites: Sites,
+    calls: CodeCalls,
+}
+
+// It is seen with the place of the attribute, 14 bytes before the code.
+impl Model for MethodCode {
+    ghost use Rattle.std.specs.Prelude.{ℕ, ◌≤◌};
+    ghost use Rattle.fcg_views.specs.Sites.{Found};
+    ghost use Rattle.fcg_class.specs.Calls.{code_in};
+
+    ghost Value = { ℕ × Found };
+
+    ghost view = { λ c. code_in c.sites c.calls };
+
+    ghost invariant = { λ c. 14 ≤ c.calls.begin };
+}
+
+impl MethodCode {
+    /// The sites, and the calls.
+    pub fn into_parts(self) -> (Sites, CodeCalls)
+        ensures { result ≡ (self.1.sites, record { begin = self.0 + 14; calls = self.1.calls }) }
+    {
+        (self.sites, self.calls)
+    }
+}
 
 // The place after the row of the exception table that stands at a place.
 #[tactic(auto, unfolding(fcg_views::specs::Breaks::Code::handler_at))]
@@ -68,80 +100,95 @@ fn read_instruction(code: CodeSpan<'_>, pc: u16) -> Result<Instruction, ClassFau
     )
 }
 
-// Adds the site of an instruction, where it has one.
-fn push_site(sites: &mut Vec<Site>, site: Option<Site>) -> Result<(), AllocError>
-    ensures { OnOk result (sites.new.items ≡ sites.old.items ++ site_list site) }
+// Adds what an instruction has.
+fn push_found(
+    sites: &mut Vec<Site>,
+    calls: &mut Vec<DynamicCall>,
+    found: SiteOrCall,
+) -> Result<(), AllocError>
+    ensures sites { OnOk result (sites.new.items ≡ sites.old.items ++ (found_in found).sites) }
+    ensures calls { OnOk result (calls.new.items ≡ calls.old.items ++ (found_in found).calls) }
 {
-    if let Some(site) = site {
-        sites.push(site)?;
+    match found {
+        SiteOrCall::Nothing => {}
+        SiteOrCall::Site(site) => sites.push(site)?,
+        SiteOrCall::Call(call) => calls.push(call)?,
     }
     Ok(())
 }
 
-// The sites of a code, where so many sites of the class are before them.
-fn read_sites(
+// What the instructions of a code have, where so many sites of the class are before.
+fn read_found(
     alloc: Global,
     names: &mut ClassNames<'_>,
     code: CodeSpan<'_>,
     count: usize,
-) -> Result<Vec<Site>, ReadError<ClassFault>>
+) -> Result<(Vec<Site>, Vec<DynamicCall>), ReadError<ClassFault>>
     requires short { length code.bytes.now ≤ 65535 }
     requires place { code.begin + length code.bytes.now < 2 ^ 64 }
     requires few { count ≤ 1000000 }
-    ensures value { (bytes : List ℕ) → Gives (λ sites. sites.items) result (sites_of (over bytes names.old) code.entry.begin code.entry.bytes.now count) }
-    ensures few { IfOk result (λ sites. count + length sites.items ≤ 1000000) }
+    ensures value { Gives (λ x. record { sites = x.0.items; calls = x.1.items }) result (found_of names.old code.entry.begin code.entry.bytes.now count) }
+    ensures few { IfOk result (λ x. count + length x.0.items ≤ 1000000) }
+    ensures placed { IfOk result (λ x. ArePlaced code.entry.begin x.1.items) }
     ensures same { names.new ≡ names.old }
 {
     let mut sites = Vec::new(alloc);
+    let mut calls = Vec::new(alloc);
     let mut pc = 0;
     while pc < code.bytes.len() {
         let instruction = read_instruction(code, pc as u16)?;
         let before = count + sites.len();
-        let site = read_site(alloc, names, code, pc as u16, instruction, before)?;
-        push_site(&mut sites, site)?;
+        let found = read_site_or_call(alloc, names, code, pc as u16, instruction, before)?;
+        push_found(&mut sites, &mut calls, found)?;
         pc = instruction.next as usize;
     }
-    Ok(sites)
+    Ok((sites, calls))
 }
 
-/// The sites of a method's code (JVMS 4.7.3). `bytes` are the file up to the end of the content of the attribute Code,
-/// which stands from `at` on; `count` sites of the class are before these, and with these there are at most 1,000,000.
+/// What a method's attribute Code (JVMS 4.7.3) says, which stands at a place. `bytes` are the file up to the end of its
+/// content; `count` sites of the class are before those of its instructions, and with these there are at most
+/// 1,000,000.
 ///
 /// The first fault in reading order is one of these: a number or a table passes the content's end; the length of the
-/// code is 0 or above 65,535 bytes; an instruction breaks a rule, or its site does, at the place of its opcode in the
-/// file; an attribute of the code is one that isn't read yet; bytes stand after the last attribute.
+/// code is 0 or above 65,535 bytes; an instruction breaks a rule, or its site or its operand does, at the place of its
+/// opcode in the file; the name of an attribute of the code is no text; bytes stand after the last attribute.
 ///
 /// Makes one pass over the code, and passes over the exception table by its rows and over the attributes by their
-/// lengths. It takes memory for the sites.
-#[tactic(auto, unfolding(fcg_views::specs::Breaks::Code::code_at))]
+/// lengths. It takes memory for the sites and the calls.
+#[tactic(auto, unfolding(fcg_views::specs::Breaks::Code::code_at), using(crate::proofs::SiteLemmas::found_over))]
 pub fn read_code(
     alloc: Global,
     names: &mut ClassNames<'_>,
     bytes: &[u8],
     at: usize,
     count: usize,
-) -> Result<Sites, ReadError<ClassFault>>
-    requires place { at ≤ length bytes.now }
+) -> Result<MethodCode, ReadError<ClassFault>>
+    requires place { at + 6 ≤ length bytes.now }
     requires few { count ≤ 1000000 }
-    ensures value { Gives (λ sites. sites) result (code_at (over bytes.now names.old) at count) }
-    ensures few { IfOk result (λ sites. count + length sites ≤ 1000000) }
+    ensures value { Gives (λ code. code.1) result (code_at count (over bytes.now names.old) (at + 6)) }
+    ensures place { IfOk result (λ code. code.0 ≡ at) }
+    ensures few { IfOk result (λ code. count + length code.1.sites ≤ 1000000) }
     ensures same { names.new ≡ names.old }
 {
-    read_u2(bytes, at, 0)?;
-    read_u2(bytes, at + 2, 0)?;
-    let len = read_u4(bytes, at + 4, 0)? as usize;
+    let content = at + 6;
+    read_u2(bytes, content, 0)?;
+    read_u2(bytes, content + 2, 0)?;
+    let len = read_u4(bytes, content + 4, 0)? as usize;
     if len < 1 || len > 65535 {
-        return Err(ReadError::Fault(fault_at(at + 4, 0, ClassRule::CodeLength)));
+        return Err(ReadError::Fault(fault_at(content + 4, 0, ClassRule::CodeLength)));
     }
     let code = CodeSpan {
-        begin: at + 8,
-        bytes: read_part(bytes, at + 8, len, 0)?,
+        begin: content + 8,
+        bytes: read_part(bytes, content + 8, len, 0)?,
     };
-    let sites = read_sites(alloc, names, code, count)?;
-    let handlers_end = pass_handlers(bytes, at + 8 + len)?;
+    let (sites, calls) = read_found(alloc, names, code, count)?;
+    let handlers_end = pass_handlers(bytes, content + 8 + len)?;
     let end = pass_attributes(names.pool(), bytes, handlers_end)?;
     if bytes.len() != end {
         return Err(ReadError::Fault(fault_at(end, 0, ClassRule::Trailing)));
     }
-    Ok(Sites::from(sites))
+    Ok(MethodCode {
+        sites: Sites::from(sites),
+        calls: CodeCalls::new(content + 8, calls),
+    })
 }

@@ -4,12 +4,16 @@
 #![tactic(auto)]
 
 mod attributes;
+mod bootstrap;
 mod bundle;
+mod calls;
 mod class;
 mod code;
 mod declared;
 mod fields;
+mod finish;
 mod firsts;
+mod handles;
 mod laws;
 mod members;
 mod methods;
@@ -21,5 +25,5 @@ mod site;
 mod tests;
 mod text;
 
-pub use bundle::{BundleFault, read_bundle};
+pub use bundle::{BundleFault, BundleRule, read_bundle};
 pub use laws::one_bundle_verdict;

@@ -1,24 +1,24 @@
 //! The methods of a class file, no two of which have one name and descriptor.
-ghost use Rattle.std.specs.Prelude.{◌≡◌, ◌≤◌, ◌+◌, ◌++◌, ◌∷◌, [], length, Ok, OnOk, IfOk};
+ghost use Rattle.std.specs.Prelude.{◌≡◌, ◌≤◌, ◌+◌, ◌++◌, ◌∷◌, [], length, sum_by, Ok, OnOk, IfOk};
 ghost use Rattle.std.specs.List.{list_any};
 ghost use Rattle.fcg_views.specs.Breaks.Pool.{text_of};
 ghost use Rattle.fcg_views.specs.Valid.{site_count};
-ghost use Rattle.fcg_class.specs.Methods.{is_signature};
+ghost use Rattle.fcg_class.specs.Methods.{is_signature, methods_of};
 
+use crate::calls::Unfinished;
 use crate::firsts::{find_firsts, first_of};
 use crate::text::Text;
 use fcg_pool::Pool;
-use fcg_views::Method;
 use std::alloc::{AllocError, Global};
 use std::collections::BTreeSet;
 use std::marker::Model;
 
-/// Methods in the order in which they were read. Their names and descriptors are kept as indexes of the constant pool,
-/// so that texts are compared once for each Utf8 and not for each method.
+/// Methods in the order in which they were read, each with its calls of bootstrap methods. Their names and descriptors
+/// are kept as indexes of the constant pool, so that texts are compared once for each Utf8 and not for each method.
 #[derive(Drop)]
 pub struct MethodTable<'a> {
     pool: &'a Pool<'a>,
-    methods: Vec<Method>,
+    methods: Vec<Unfinished>,
     // by the index of a Utf8, the first index of its text
     firsts: Vec<u16>,
     // of each method the first indexes of its name and its descriptor
@@ -60,7 +60,7 @@ impl<'a> MethodTable<'a> {
 
     /// How many sites the methods have.
     pub fn site_count(&self) -> usize
-        ensures value { result ≡ site_count self.now.methods }
+        ensures value { result ≡ site_count (methods_of self.now.methods) }
         ensures few { result ≤ 1000000 }
     {
         self.sites
@@ -70,7 +70,7 @@ impl<'a> MethodTable<'a> {
     pub fn has(&self, name: &Text<'_>, desc: &Text<'_>) -> bool
         requires name { text_of self.now.pool name.now.index ≡ Ok name.now.bytes.now }
         requires desc { text_of self.now.pool desc.now.index ≡ Ok desc.now.bytes.now }
-        ensures { result ≡ list_any (is_signature name.now.bytes.now desc.now.bytes.now) self.now.methods }
+        ensures { result ≡ list_any (is_signature name.now.bytes.now desc.now.bytes.now) (methods_of self.now.methods) }
     {
         let signature = (
             first_of(&self.firsts, name.index),
@@ -83,13 +83,13 @@ impl<'a> MethodTable<'a> {
     /// the table is as it was.
     pub fn push(
         &mut self,
-        method: Method,
+        method: Unfinished,
         name: &Text<'_>,
         desc: &Text<'_>,
     ) -> Result<(), AllocError>
-        requires name { (text_of self.old.pool name.now.index ≡ Ok name.now.bytes.now) × (method.name ≡ name.now.bytes.now) }
-        requires desc { (text_of self.old.pool desc.now.index ≡ Ok desc.now.bytes.now) × (method.desc ≡ desc.now.bytes.now) }
-        requires few { site_count self.old.methods + length method.sites ≤ 1000000 }
+        requires name { (text_of self.old.pool name.now.index ≡ Ok name.now.bytes.now) × (method.0.name ≡ name.now.bytes.now) }
+        requires desc { (text_of self.old.pool desc.now.index ≡ Ok desc.now.bytes.now) × (method.0.desc ≡ desc.now.bytes.now) }
+        requires few { site_count (methods_of self.old.methods) + length method.0.sites ≤ 1000000 }
         ensures ok { OnOk result (self.new.methods ≡ self.old.methods ++ method ∷ []) }
         ensures same { self.new.pool ≡ self.old.pool }
     {
@@ -99,14 +99,15 @@ impl<'a> MethodTable<'a> {
         );
         self.methods.reserve(1)?;
         self.signatures.insert(signature)?;
-        self.sites += method.sites.as_slice().len();
+        self.sites += method.0.sites.as_slice().len();
         self.methods.push(method).unwrap();
         Ok(())
     }
 
     /// The methods.
-    pub fn into_methods(self) -> Vec<Method>
-        ensures { result.items ≡ self.entry.methods }
+    pub fn into_methods(self) -> Vec<Unfinished>
+        ensures methods { result.items ≡ self.entry.methods }
+        ensures few { sum_by (λ m. length m.0.sites) result.items ≤ 1000000 }
     {
         self.methods
     }

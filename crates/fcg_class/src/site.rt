@@ -1,23 +1,26 @@
-//! The sites of a method's code: the instructions that name a method, a field or a type (JVMS 6.5).
-ghost use Rattle.std.specs.Prelude.{◌≡◌, ◌+◌, ◌<◌, ◌^◌, ℕ, List, IfOk, slice_index};
+//! The sites of a method's code, and its calls of bootstrap methods: the instructions that name a method, a field, a
+//! type or a bootstrap method (JVMS 6.5).
+ghost use Rattle.std.specs.Prelude.{◌≡◌, ◌+◌, ◌<◌, ◌^◌, IfOk, slice_index};
 ghost use Rattle.fcg_grammar.specs.Reading.{seen, Gives};
-ghost use Rattle.fcg_views.specs.Sites.{Class, site_form, is_unread};
+ghost use Rattle.fcg_views.specs.Sites.{ToType, site_form, is_dynamic};
 ghost use Rattle.fcg_views.specs.Breaks.Instructions.{operand_at};
-ghost use Rattle.fcg_views.specs.Breaks.Attributes.{over};
-ghost use Rattle.fcg_views.specs.Breaks.Code.{member_of, target_of, sites_at};
+ghost use Rattle.fcg_views.specs.Breaks.Code.{member_of, target_of, site_of, found_at};
 ghost use Rattle.fcg_pool.specs.Seen.{AreRefTexts};
 ghost use Rattle.fcg_class.specs.Names.{is_of_kind};
-ghost use Rattle.fcg_class.specs.Sites.{site_list, form_seen, named_in, ref_of};
+ghost use Rattle.fcg_class.specs.Calls.{ArePlaced};
+ghost use Rattle.fcg_class.specs.Sites.{found_in, form_in, form_seen, target_in, ref_of};
 
 use crate::names::{ClassNames, DescKind};
 use crate::text::{Text, find_type_of};
 use fcg_grammar::ReadError;
 use fcg_pool::{Instruction, RefTexts, is_one_of};
-use fcg_views::{ClassFault, ClassRule, NoMemory, Ref, Site, SiteKind, at_index, fault_at};
+use fcg_views::{
+    ClassFault, ClassRule, DynamicCall, NoMemory, Ref, Site, SiteKind, at_index, fault_at,
+};
 use std::alloc::Global;
 
-// How many sites a class may have.
-const MOST_SITES: usize = 1_000_000;
+/// How many sites a class may have.
+pub const MOST_SITES: usize = 1_000_000;
 
 /// The code of a method (JVMS 4.7.3): its bytes, and where the first of them stands.
 #[derive(Clone, Copy)]
@@ -27,40 +30,50 @@ pub struct CodeSpan<'a> {
     pub bytes: &'a [u8],
 }
 
-// What a site names: a method, by a constant of one of these tags; a field; a type.
+/// What a site names.
 #[derive(Clone, Copy)]
-enum Named {
+pub enum Target {
+    /// A method, by a constant of one of these tags: 10 is a Methodref, 11 an InterfaceMethodref (JVMS 4.4.2).
     Method(&'static [u8]),
     Field,
-    Class,
+    /// A type alone.
+    Type,
 }
 
-// What the sites of an opcode have: their kind, and what they name.
+/// What the sites of an opcode or of a kind of method handles have: their kind, and what they name.
 #[derive(Clone, Copy)]
-struct SiteForm {
-    kind: SiteKind,
-    named: Named,
+pub struct SiteForm {
+    pub kind: SiteKind,
+    pub target: Target,
 }
 
-// What the sites of an opcode have, or `None` where it has none. A Methodref has the tag 10, an InterfaceMethodref 11.
+/// What an instruction has: a site, a call of a bootstrap method, or neither.
+#[derive(Drop)]
+pub enum SiteOrCall {
+    Nothing,
+    Site(Site),
+    Call(DynamicCall),
+}
+
+// What the sites of an opcode have, or `None` where it has none.
 fn form_of(opcode: u8) -> Option<SiteForm>
     ensures { form_seen result ≡ site_form opcode }
 {
-    let (kind, named) = match opcode {
-        178 | 179 => (SiteKind::StaticField, Named::Field),
-        182 => (SiteKind::Virtual, Named::Method(&[10])),
-        183 => (SiteKind::Special, Named::Method(&[10, 11])),
-        184 => (SiteKind::Static, Named::Method(&[10, 11])),
-        185 => (SiteKind::Interface, Named::Method(&[11])),
-        187 => (SiteKind::New, Named::Class),
+    let (kind, target) = match opcode {
+        178 | 179 => (SiteKind::StaticField, Target::Field),
+        182 => (SiteKind::Virtual, Target::Method(&[10])),
+        183 => (SiteKind::Special, Target::Method(&[10, 11])),
+        184 => (SiteKind::Static, Target::Method(&[10, 11])),
+        185 => (SiteKind::Interface, Target::Method(&[11])),
+        187 => (SiteKind::New, Target::Type),
         _ => return None,
     };
-    Some(SiteForm { kind, named })
+    Some(SiteForm { kind, target })
 }
 
-// Whether an opcode isn't read yet: `invokedynamic`.
-fn is_unread(opcode: u8) -> bool
-    ensures { result ≡ is_unread opcode }
+// Whether an opcode is `invokedynamic`.
+fn is_dynamic(opcode: u8) -> bool
+    ensures { result ≡ is_dynamic opcode }
 {
     opcode == 186
 }
@@ -143,13 +156,13 @@ fn read_member(
 }
 
 // The type that an index names, without a member.
-fn read_class_ref(
+fn read_type_ref(
     alloc: Global,
     names: &mut ClassNames<'_>,
     at: usize,
     index: u16,
 ) -> Result<Ref, ReadError<ClassFault>>
-    ensures value { Gives (λ target. target) result (target_of names.old Class at index) }
+    ensures value { Gives (λ target. target) result (target_of names.old ToType at index) }
     ensures same { names.new ≡ names.old }
 {
     let owner = find_type_of(names.pool(), at, index)?;
@@ -165,58 +178,82 @@ fn read_class_ref(
 fn read_target(
     alloc: Global,
     names: &mut ClassNames<'_>,
-    named: Named,
+    target: Target,
     at: usize,
     index: u16,
 ) -> Result<Ref, ReadError<ClassFault>>
-    ensures value { Gives (λ target. target) result (target_of names.old (named_in named) at index) }
+    ensures value { Gives (λ named. named) result (target_of names.old (target_in target) at index) }
     ensures same { names.new ≡ names.old }
 {
-    match named {
-        Named::Method(tags) => read_member(alloc, names, DescKind::Method, tags, at, index),
-        Named::Field => read_member(alloc, names, DescKind::Field, &[9], at, index),
-        Named::Class => read_class_ref(alloc, names, at, index),
+    match target {
+        Target::Method(tags) => read_member(alloc, names, DescKind::Method, tags, at, index),
+        Target::Field => read_member(alloc, names, DescKind::Field, &[9], at, index),
+        Target::Type => read_type_ref(alloc, names, at, index),
     }
 }
 
-/// The site of the instruction whose opcode stands at a place of the code, or `None` where it has none. `count` is the
-/// number of sites of the class before it.
+/// The site of a form that has an index at a pc. `count` is the number of sites of the class before it.
 ///
-/// A fault is at the place of the opcode in the file. It is the first of these: the opcode isn't read yet; the operand,
-/// which is the fault's index, names nothing that the opcode may have, as a method reference, a field reference or a
-/// type; the name of the type, the method or the field is empty; the descriptor of a method is no method descriptor, or
-/// that of a field no field descriptor; the class has as many sites before as it may have.
+/// A fault is at the place `at` of the file. It is the first of these: the index, which is the fault's own, names
+/// nothing that the form may have, as a method reference, a field reference or a type; the name of the type, the method
+/// or the field is empty; the descriptor of a method is no method descriptor, or that of a field no field descriptor;
+/// the class has as many sites before as it may have.
 ///
 /// Takes constant time, but where a Utf8 is needed for the first time: then its bytes are copied or read once.
-#[tactic(auto, unfolding(fcg_views::specs::Breaks::Code::sites_at, fcg_views::specs::Breaks::Code::site_at), using(crate::proofs::SiteLemmas::sites_over))]
-pub fn read_site(
+#[tactic(auto, unfolding(fcg_views::specs::Breaks::Code::site_of))]
+pub fn read_site_of(
+    alloc: Global,
+    names: &mut ClassNames<'_>,
+    form: SiteForm,
+    at: usize,
+    pc: u16,
+    index: u16,
+    count: usize,
+) -> Result<Site, ReadError<ClassFault>>
+    ensures value { Gives (λ site. site) result (site_of names.old (form_in form) at pc index count) }
+    ensures same { names.new ≡ names.old }
+{
+    let target = read_target(alloc, names, form.target, at, index)?;
+    if count >= MOST_SITES {
+        return Err(ReadError::Fault(fault_at(at, 0, ClassRule::ManySites)));
+    }
+    Ok(Site {
+        pc,
+        kind: form.kind,
+        target,
+    })
+}
+
+/// The site or the call of a bootstrap method that the instruction whose opcode stands at a place of the code has.
+/// `count` is the number of sites of the class before it.
+///
+/// A fault is at the place of the opcode in the file: that of the site, or of the operand of `invokedynamic`, which
+/// names no InvokeDynamic.
+#[tactic(auto, unfolding(fcg_views::specs::Breaks::Code::found_at))]
+pub fn read_site_or_call(
     alloc: Global,
     names: &mut ClassNames<'_>,
     code: CodeSpan<'_>,
     pc: u16,
     instruction: Instruction,
     count: usize,
-) -> Result<Option<Site>, ReadError<ClassFault>>
+) -> Result<SiteOrCall, ReadError<ClassFault>>
     requires place { code.begin + pc < 2 ^ 64 }
     requires opcode { instruction.opcode ≡ slice_index code.bytes.now pc }
     requires operand { instruction.operand ≡ operand_at code.bytes.now pc }
-    ensures value { (bytes : List ℕ) → Gives site_list result (sites_at (over bytes names.old) code.entry.begin code.entry.bytes.now pc count) }
+    ensures value { Gives found_in result (found_at names.old code.entry.begin code.entry.bytes.now pc count) }
+    ensures placed { IfOk result (λ x. ArePlaced code.entry.begin (found_in x).calls) }
     ensures same { names.new ≡ names.old }
 {
     let at = code.begin + usize::from(pc);
-    if is_unread(instruction.opcode) {
-        return Err(ReadError::Fault(fault_at(at, 0, ClassRule::NotBuilt)));
+    let operand = instruction.operand;
+    if is_dynamic(instruction.opcode) {
+        let bootstrap = at_index(at, operand, names.pool().dynamic(operand))?;
+        return Ok(SiteOrCall::Call(DynamicCall { pc, bootstrap }));
     }
     let Some(form) = form_of(instruction.opcode) else {
-        return Ok(None);
+        return Ok(SiteOrCall::Nothing);
     };
-    let target = read_target(alloc, names, form.named, at, instruction.operand)?;
-    if count >= MOST_SITES {
-        return Err(ReadError::Fault(fault_at(at, 0, ClassRule::ManySites)));
-    }
-    Ok(Some(Site {
-        pc,
-        kind: form.kind,
-        target,
-    }))
+    let site = read_site_of(alloc, names, form, at, pc, operand, count)?;
+    Ok(SiteOrCall::Site(site))
 }

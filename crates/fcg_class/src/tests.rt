@@ -1,5 +1,7 @@
+mod handles;
+
 use crate::class::read_class;
-use crate::{BundleFault, read_bundle};
+use crate::{BundleFault, BundleRule, read_bundle};
 use fcg_grammar::ReadError;
 use fcg_views::{ClassFault, ClassRule, SiteKind, View};
 use std::alloc::Global;
@@ -110,6 +112,29 @@ const CALL: [u8; 144] = [
     0x00, 0x00, 0x00, 0x00, 0x05, 0xb8, 0x00, 0x07, 0x00, 0xb1, 0x00, 0x00, 0x00, 0x00, 0x00, 0x00,
 ];
 
+// A class `p/A` whose method `m()V` calls itself: its code is `invokestatic` 6 and `return`.
+const BODY: [u8; 90] = [
+    0xca, 0xfe, 0xba, 0xbe, 0x00, 0x00, 0x00, 0x41, 0x00, 0x08, 0x01, 0x00, 0x03, 0x70, 0x2f, 0x41,
+    0x07, 0x00, 0x01, 0x01, 0x00, 0x01, 0x6d, 0x01, 0x00, 0x03, 0x28, 0x29, 0x56, 0x0c, 0x00, 0x03,
+    0x00, 0x04, 0x0a, 0x00, 0x02, 0x00, 0x05, 0x01, 0x00, 0x04, 0x43, 0x6f, 0x64, 0x65, 0x00, 0x21,
+    0x00, 0x02, 0x00, 0x00, 0x00, 0x00, 0x00, 0x00, 0x00, 0x01, 0x00, 0x09, 0x00, 0x03, 0x00, 0x04,
+    0x00, 0x01, 0x00, 0x07, 0x00, 0x00, 0x00, 0x10, 0xff, 0xff, 0xff, 0xff, 0x00, 0x00, 0x00, 0x04,
+    0xb8, 0x00, 0x06, 0xb1, 0x00, 0x00, 0x00, 0x00, 0x00, 0x00,
+];
+
+// As above, of this class: its version, texts of the pool, its own index, the code's length, an opcode, and the operand of
+// a call.
+const BROKEN_BODY: [(usize, u8, ClassRule, u32, u16); 8] = [
+    (7, 0x42, ClassRule::Version, 6, 0),
+    (22, 0x00, ClassRule::BadUtf8, 22, 3),
+    (28, 0x58, ClassRule::Descriptor, 62, 0),
+    (49, 0x01, ClassRule::WrongKind, 48, 1),
+    (79, 0x05, ClassRule::Cut, 87, 0),
+    (80, 0xca, ClassRule::BadOpcode, 80, 0),
+    (82, 0x05, ClassRule::WrongKind, 80, 5),
+    (82, 0x00, ClassRule::BadIndex, 80, 0),
+];
+
 // An opcode in place of its first, the index after it, and the site: its kind, whether it names an interface's method, and
 // the name and the descriptor of what it names.
 const SITES: [(u8, u8, SiteKind, bool, &[u8], &[u8]); 9] = [
@@ -125,7 +150,7 @@ const SITES: [(u8, u8, SiteKind, bool, &[u8], &[u8]); 9] = [
 ];
 
 // Two of its bytes by their places, what they are changed to, and the fault.
-const BROKEN_CODE: [(usize, u8, usize, u8, ClassRule, u32, u16); 30] = [
+const BROKEN_CODE: [(usize, u8, usize, u8, ClassRule, u32, u16); 33] = [
     // what an opcode may not name: a constant of another kind, index 0, an index past the pool
     (133, 182, 135, 8, ClassRule::WrongKind, 133, 8),
     (133, 182, 135, 6, ClassRule::WrongKind, 133, 6),
@@ -145,8 +170,11 @@ const BROKEN_CODE: [(usize, u8, usize, u8, ClassRule, u32, u16); 30] = [
     (133, 179, 135, 6, ClassRule::Descriptor, 133, 0),
     (133, 187, 135, 19, ClassRule::WrongKind, 133, 19),
     (133, 187, 135, 11, ClassRule::EmptyName, 133, 0),
-    // an opcode that isn't read yet
-    (133, 186, 135, 7, ClassRule::NotBuilt, 133, 0),
+    // of a bootstrap method: a Methodref, a NameAndType, index 0, an index past the pool
+    (133, 186, 135, 7, ClassRule::WrongKind, 133, 7),
+    (133, 186, 135, 5, ClassRule::WrongKind, 133, 5),
+    (133, 186, 135, 0, ClassRule::BadIndex, 133, 0),
+    (133, 186, 135, 20, ClassRule::BadIndex, 133, 20),
     // instructions that break a rule, the last after the site
     (133, 202, 135, 7, ClassRule::BadOpcode, 133, 0),
     (133, 196, 135, 7, ClassRule::BadWide, 133, 0),
@@ -215,6 +243,12 @@ fn cut_at_each_length(rt: HostRuntime) -> Result<(), Fail> {
             _ => panic!(rt; "the first {n} bytes were read"),
         }
     }
+    for n in 0..BODY.len() {
+        match read_class(rt.alloc(), &BODY[..n]) {
+            Err(ReadError::Fault(fault)) => assert!(rt; fault.rule == ClassRule::Cut, "at {n}"),
+            _ => panic!(rt; "the first {n} bytes were read"),
+        }
+    }
     let mut longer = SMALLEST.to_vec(rt.alloc())?;
     longer.push(0)?;
     match read_class(rt.alloc(), &longer) {
@@ -267,6 +301,7 @@ fn changed_bytes(rt: HostRuntime) -> Result<(), Fail> {
     let tables = [
         (METHODS.as_slice(), CHANGES.as_slice()),
         (FIELDS.as_slice(), BROKEN_FIELDS.as_slice()),
+        (BODY.as_slice(), BROKEN_BODY.as_slice()),
     ];
     for (file, changes) in tables {
         for (at, byte, rule, offset, index) in changes.iter() {
@@ -369,13 +404,77 @@ fn second_code(rt: HostRuntime) -> Result<(), Fail> {
     Ok(())
 }
 
+// An attribute BootstrapMethods without a row, and one of one byte, which is no table.
+const NO_ROWS: [u8; 8] = [0x00, 0x14, 0x00, 0x00, 0x00, 0x02, 0x00, 0x00];
+
+const NO_TABLE: [u8; 7] = [0x00, 0x14, 0x00, 0x00, 0x00, 0x01, 0xff];
+
+// The bytes of `CALL` with the text `BootstrapMethods` as a constant more, 20, which takes 19 bytes; of these some are
+// changed.
+fn with_bootstrap_name(alloc: Global, changes: &[(usize, u8)]) -> Result<Vec<u8>, Fail> {
+    let mut bytes = CALL[..99].to_vec(alloc)?;
+    bytes[9] = 21;
+    bytes.extend_from_slice(b"\x01\x00\x10BootstrapMethods")?;
+    bytes.extend_from_slice(&CALL[99..])?;
+    for (at, byte) in changes {
+        if let Some(old) = bytes.get_mut(*at) {
+            *old = *byte;
+        }
+    }
+    Ok(bytes)
+}
+
+// Of a code and of a method it is passed over, whatever its content, and however often it stands there.
+#[test]
+fn other_bootstrap_methods(rt: HostRuntime) -> Result<(), Fail> {
+    let of_code = [(143, 31), (160, 2)].as_slice();
+    let of_method = [(137, 3)].as_slice();
+    for changes in [of_code, of_method] {
+        let mut bytes = with_bootstrap_name(rt.alloc(), changes)?;
+        bytes.truncate(161);
+        bytes.extend_from_slice(&NO_TABLE)?;
+        bytes.extend_from_slice(&NO_TABLE)?;
+        bytes.extend_from_slice(&[0, 0])?;
+        let view = view_of(rt.alloc(), &bytes)?;
+        let [method] = view.methods.as_slice() else {
+            panic!(rt; "it has one method");
+        };
+        assert_eq!(rt; method.sites.as_slice().len(), 1);
+    }
+    Ok(())
+}
+
+// The class has one that is no table, or two.
+#[test]
+fn broken_bootstrap_methods(rt: HostRuntime) -> Result<(), Fail> {
+    let mut cut = with_bootstrap_name(rt.alloc(), &[(162, 1)])?;
+    cut.extend_from_slice(&NO_TABLE)?;
+    let mut twice = with_bootstrap_name(rt.alloc(), &[(162, 2)])?;
+    twice.extend_from_slice(&NO_ROWS)?;
+    twice.extend_from_slice(&NO_TABLE)?;
+    for (bytes, offset, rule) in [
+        (cut, 169, ClassRule::Cut),
+        (twice, 171, ClassRule::Bootstrap),
+    ] {
+        let want = ClassFault {
+            offset,
+            index: 0,
+            rule,
+        };
+        match read_class(rt.alloc(), &bytes) {
+            Err(ReadError::Fault(fault)) => assert_eq!(rt; fault, want),
+            _ => panic!(rt; "it was read"),
+        }
+    }
+    Ok(())
+}
+
 // A bundle with the smallest class file at each of some paths.
 fn make_bundle(alloc: Global, paths: &[&[u8]]) -> Result<Vec<u8>, Fail> {
     let mut bytes = b"FCGB\x00\x01\x00\x00\x00".to_vec(alloc)?;
     bytes.push(u8::try_from(paths.len())?)?;
     for path in paths {
-        bytes.push(0)?;
-        bytes.push(u8::try_from(path.len())?)?;
+        bytes.extend_from_slice(&u16::try_from(path.len())?.to_be_bytes())?;
         bytes.extend_from_slice(path)?;
         bytes.extend_from_slice(&[0, 0, 0, 53])?;
         bytes.extend_from_slice(&SMALLEST)?;
@@ -408,46 +507,164 @@ fn bundles(rt: HostRuntime) -> Result<(), Fail> {
     Ok(())
 }
 
-fn is_not_built(alloc: Global, bytes: &[u8]) -> bool {
-    matches!(
-        read_bundle(alloc, bytes),
-        Err(ReadError::Fault(BundleFault::NotBuilt))
-    )
-}
-
-#[test]
-fn refused_bundles(rt: HostRuntime) -> Result<(), Fail> {
-    assert!(rt;
-        matches!(
-            read_bundle(rt.alloc(), b"PK\x03\x04"),
-            Err(ReadError::Fault(BundleFault::Jar))
-        )
-    );
-    assert!(rt; is_not_built(rt.alloc(), b"FCG"));
-    let mut longer = make_bundle(rt.alloc(), &[b"I.class"])?;
-    longer.push(0)?;
-    assert!(rt; is_not_built(rt.alloc(), &longer));
-    let twice = make_bundle(rt.alloc(), &[b"I.class", b"I.class"])?;
-    assert!(rt; is_not_built(rt.alloc(), &twice));
-    Ok(())
-}
-
-// Paths with an empty part, a part `..` or a byte 5c, of a file that is no class file, and of a version of one.
-const BAD_PATHS: [&[u8]; 7] = [
-    b"",
-    b"/I.class",
-    b"a//I.class",
-    b"a/../I.class",
-    b"a\\I.class",
-    b"a.txt",
-    b"META-INF/versions/9/A.class",
+// Paths, and whether a class file there is shown.
+const SHOWN: [(&[u8], bool); 7] = [
+    (b"a.class", true),
+    (b".class", true),
+    (b"META-INF/versions.class", true),
+    (b"META-INF/versions/9/a.class", false),
+    (b"META-INF/versions/.class", false),
+    (b"a.CLASS", false),
+    (b"a.class.txt", false),
 ];
 
 #[test]
-fn refused_paths(rt: HostRuntime) -> Result<(), Fail> {
+fn shown_paths(rt: HostRuntime) -> Result<(), Fail> {
+    for (path, shown) in SHOWN {
+        let mut bytes = make_bundle(rt.alloc(), &[path])?;
+        let views = read_bundle(rt.alloc(), &bytes)
+            .ok()
+            .ok_or("it is a bundle")?;
+        assert_eq!(rt; views.as_slice().len(), usize::from(shown));
+        // what is passed over need be no class file, but all class files are read
+        if let Some(last) = bytes.last_mut() {
+            *last = 1;
+        }
+        assert_eq!(rt;
+            read_bundle(rt.alloc(), &bytes).is_err(),
+            path.ends_with(b".class")
+        );
+    }
+    Ok(())
+}
+
+// Bytes, and the fault that they have as a bundle: its place, its entry and its rule.
+const BROKEN: [(&[u8], u32, u32, BundleRule); 11] = [
+    (b"", 0, 0, BundleRule::Cut),
+    (b"FCG", 0, 0, BundleRule::Cut),
+    (b"FCGC", 0, 0, BundleRule::Magic),
+    (b"FCGB\x00", 4, 0, BundleRule::Cut),
+    (b"FCGB\x01\x00", 4, 0, BundleRule::Version),
+    (b"FCGB\x00\x01\x00\x00\x00", 6, 0, BundleRule::Cut),
+    (b"FCGB\x00\x01\xff\xff\xff\xff", 10, 0, BundleRule::Cut),
+    (
+        b"FCGB\x00\x01\x00\x00\x00\x01\x00\x02a",
+        12,
+        0,
+        BundleRule::Cut,
+    ),
+    (
+        b"FCGB\x00\x01\x00\x00\x00\x01\x00\x01a\x00",
+        13,
+        0,
+        BundleRule::Cut,
+    ),
+    (
+        b"FCGB\x00\x01\x00\x00\x00\x01\x00\x01a\x00\x00\x00\x02b",
+        17,
+        0,
+        BundleRule::Cut,
+    ),
+    (
+        b"FCGB\x00\x01\x00\x00\x00\x02\x00\x01a\x00\x00\x00\x01b\x00\x01/",
+        20,
+        1,
+        BundleRule::Path,
+    ),
+];
+
+// The fault of bytes that are no bundle.
+fn fault_of(alloc: Global, bytes: &[u8]) -> Result<BundleFault, Fail> {
+    match read_bundle(alloc, bytes) {
+        Err(ReadError::Fault(fault)) => Ok(fault),
+        _ => Err("it has a fault".into()),
+    }
+}
+
+#[test]
+fn broken_bundles(rt: HostRuntime) -> Result<(), Fail> {
+    assert_eq!(rt; fault_of(rt.alloc(), b"PK\x03\x04")?, BundleFault::Jar);
+    for (bytes, offset, entry, rule) in BROKEN {
+        let want = BundleFault::Bundle {
+            offset,
+            entry,
+            rule,
+        };
+        assert_eq!(rt; fault_of(rt.alloc(), bytes)?, want);
+    }
+    let mut longer = make_bundle(rt.alloc(), &[b"I.class"])?;
+    longer.push(0)?;
+    let want = BundleFault::Bundle {
+        offset: 76,
+        entry: 1,
+        rule: BundleRule::Trailing,
+    };
+    assert_eq!(rt; fault_of(rt.alloc(), &longer)?, want);
+    let twice = make_bundle(rt.alloc(), &[b"I.class", b"I.class"])?;
+    let want = BundleFault::Bundle {
+        offset: 78,
+        entry: 1,
+        rule: BundleRule::Path,
+    };
+    assert_eq!(rt; fault_of(rt.alloc(), &twice)?, want);
+    // a byte of the second name of the second class file
+    let mut unreadable = make_bundle(rt.alloc(), &[b"I.class", b"J.class"])?;
+    if let Some(byte) = unreadable.get_mut(111) {
+        *byte = 0;
+    }
+    let want = BundleFault::Class {
+        entry: 1,
+        fault: ClassFault {
+            offset: 22,
+            index: 3,
+            rule: ClassRule::BadUtf8,
+        },
+    };
+    assert_eq!(rt; fault_of(rt.alloc(), &unreadable)?, want);
+    Ok(())
+}
+
+// Paths with an empty part, a part `.` or `..`, a byte below 20, a byte 5c and a byte 7f.
+const BAD_PATHS: [&[u8]; 8] = [
+    b"/I.class",
+    b"a//I.class",
+    b"a/",
+    b"./I.class",
+    b"a/../I.class",
+    b"a\x1f.class",
+    b"a\\I.class",
+    b"\x7f.class",
+];
+
+#[test]
+fn broken_paths(rt: HostRuntime) -> Result<(), Fail> {
     for path in BAD_PATHS {
         let bytes = make_bundle(rt.alloc(), &[path])?;
-        assert!(rt; is_not_built(rt.alloc(), &bytes));
+        let want = BundleFault::Bundle {
+            offset: 12,
+            entry: 0,
+            rule: BundleRule::Path,
+        };
+        assert_eq!(rt; fault_of(rt.alloc(), &bytes)?, want);
+    }
+    Ok(())
+}
+
+#[test]
+fn lengths_of_paths(rt: HostRuntime) -> Result<(), Fail> {
+    for (len, kept) in [(0, false), (1, true), (1024, true), (1025, false)] {
+        let path = vec![in rt.alloc(); b'a'; len]?;
+        let bytes = make_bundle(rt.alloc(), &[path.as_slice()])?;
+        if kept {
+            assert!(rt; read_bundle(rt.alloc(), &bytes).is_ok(), "{len}");
+        } else {
+            let want = BundleFault::Bundle {
+                offset: 10,
+                entry: 0,
+                rule: BundleRule::Path,
+            };
+            assert_eq!(rt; fault_of(rt.alloc(), &bytes)?, want, "{len}");
+        }
     }
     Ok(())
 }

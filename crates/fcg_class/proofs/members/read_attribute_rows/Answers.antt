@@ -1,7 +1,9 @@
-use Rattle.std.proofs.Common.{◌∙◌}
-use Rattle.fcg_views.specs.Breaks.Members.{method_attribute_at}
-use Rattle.fcg_class.specs.Members.{code_begun}
+use Rattle.std.proofs.Common.{codes, ◌∙◌}
 use Rattle.fcg_grammar.proofs.RowLemmas.{ended_goes_on}
+use Rattle.fcg_views.specs.declared.fault.ClassRule.TheVariants.{DoubleCode}
+use Rattle.fcg_views.specs.Breaks.Attributes.{one_at}
+use Rattle.fcg_views.specs.Breaks.Code.{code_at}
+use Rattle.fcg_class.specs.Members.{code_begun}
 use Rattle.fcg_class.proofs.members.read_attribute_rows.Goals as goal
 
 pub loop-preserved : goal.loop-preserved
@@ -9,7 +11,7 @@ loop-preserved c =
     let inv = c.loop.invariant in
     let given = rw inv.3 at (c.in_ok-after.ensures.value c.loop.counter) in
     let same = c.in_ok-after.ensures.same in (
-      ended_goes_on (method_attribute_at c.args.names.now c.args.count) c.args.attributes c.loop.counter (code_begun c.loop.place c.loop.sites) tt (code_begun c.in_ok-after.after c.in_ok-after.found) _ c.loop-test.true given inv.0,
+      ended_goes_on (one_at (codes "Code") DoubleCode (code_at c.args.count) c.args.names.now) c.args.attributes c.loop.counter (code_begun c.loop.place c.loop.code) tt (code_begun c.in_ok-after.after c.in_ok-after.found) _ c.loop-test.true given inv.0,
       rw same c.in_ok-after.ensures.inside,
       c.in_ok-after.ensures.few,
       same ∙ inv.3,

@@ -1,8 +1,6 @@
-use Rattle.std.proofs.Common.{◌≡◌, List, [], ◌∷◌, ◌++◌, sym, ap, ◌∙◌}
+use Rattle.std.proofs.Common.{◌≡◌, ◌∷◌, [], ◌++◌, sym, ap, ◌∙◌}
 use Rattle.std.proofs.lemmas.Result.{err_from_is_err_and}
-use Rattle.fcg_views.specs.declared.view.Method.{Method}
-use Rattle.fcg_views.specs.declared.view.Site.{Site}
-use Rattle.fcg_views.specs.Breaks.Members.{or_none, method_of}
+use Rattle.fcg_views.specs.Breaks.Members.{Unfinished, unfinished}
 use Rattle.fcg_class.specs.Members.{declared_of, code_begun}
 use Rattle.fcg_class.proofs.MethodLemmas.{method_at-doubled, method_at-broken, method_at-read}
 use Rattle.fcg_class.proofs.members.read_method.Goals as goal
@@ -26,7 +24,7 @@ returns-clause-value c =
     let d = declared_of c.in_ok-declared.declared in
     let declared = rw c.requires.pool at (sym c.in_ok-declared.ensures.value) in
     let given = rw (c.in_ok-declared.ensures.same, c.requires.pool, c.site_count.ensures.value) at c.in_ok-after.ensures.value in
-    let made = c.in_ok-method.ensures.ok ∙ ap (λ (xs : List Site). method_of d xs) c.sites_or_none-sites.ensures in
-    let pushed : c.push.new.self.methods ≡ c.args.table.now.methods ++ method_of d (or_none c.in_ok-after.sites) ∷ [] =
-    c.in_ok-push.ensures.ok ∙ ap (λ (x : Method). c.args.table.now.methods ++ x ∷ []) made in
-    λ k. (method_of d (or_none c.in_ok-after.sites), pushed, rw pushed (method_at-read c.args.table.now.pool k c.args.at c.args.table.now.methods d (code_begun c.in_ok-after.after c.in_ok-after.sites) declared (sym c.has.ensures ∙ c.if-has.false) given))
+    let m = unfinished d c.in_ok-after.code in
+    let pushed : c.push.new.self.methods ≡ c.args.table.now.methods ++ m ∷ [] =
+    c.in_ok-push.ensures.ok ∙ ap (λ (x : Unfinished). c.args.table.now.methods ++ x ∷ []) c.in_ok-method.ensures.ok in
+    λ k. (m, pushed, rw pushed (method_at-read c.args.table.now.pool k c.args.at c.args.table.now.methods d (code_begun c.in_ok-after.after c.in_ok-after.code) declared (sym c.has.ensures ∙ c.if-has.false) given))

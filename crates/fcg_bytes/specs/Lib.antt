@@ -1,4 +1,6 @@
 pub mod Causes
+pub mod Files
+pub mod Known
 pub mod Objects
 pub mod Standard
 pub mod Streams

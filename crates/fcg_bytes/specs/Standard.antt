@@ -1,5 +1,6 @@
 -- What the adapters hold.
 use Rattle.std.specs.Prelude.{ℕ}
+use Rattle.fcg_bytes.specs.declared.host_files.HostFiles.{HostFiles}
 use Rattle.fcg_bytes.specs.declared.standard.StdSource.{StdSource}
 use Rattle.fcg_bytes.specs.declared.standard.StdSink.{StdSink}
 
@@ -18,3 +19,7 @@ sink_writer s = s.writer
 -- the sink's count of faults
 abbrev pub sink_faults : {W : Type 0} → StdSink W → ℕ
 sink_faults s = s.faults
+
+-- the host's files' count of faults
+abbrev pub files_faults : {R : Type 0} → HostFiles R → ℕ
+files_faults s = s.faults

@@ -15,16 +15,11 @@ use Rattle.fcg_top.specs.declared.status.Refusal.TheVariants as refusals
 use Rattle.fcg_top.specs.declared.status.Stop.{Stop}
 use Rattle.fcg_top.specs.declared.status.Stop.TheVariants as stops
 use Rattle.fcg_top.specs.Text.{line, list_text, sites_text}
+use Rattle.fcg_top.specs.Refused.{body_of}
 
 -- the length of the longest bundle
 abbrev pub bundle_limit : ℕ
 bundle_limit = 67108864
-
--- the body of a refusal
-abbrev pub body_of : Refusal → List ℕ
-body_of refusals.BodyTooLong = codes "{\"fault\":\"BodyTooLong\",\"limit\":67108864}"
-body_of refusals.Jar = codes "{\"fault\":\"Jar\"}"
-body_of refusals.NotBuilt = codes "{\"fault\":\"NotBuilt\"}"
 
 -- what a command prints of a bundle's views
 abbrev pub text_of : Command → List View → List ℕ
@@ -34,7 +29,8 @@ text_of commands.Sites views = sites_text views
 abbrev pub answer_of_bundle : Command → Result (List View) BundleFault → Result (List ℕ) Refusal
 answer_of_bundle command (Ok views) = Ok (text_of command views)
 answer_of_bundle command (Err faults.Jar) = Err refusals.Jar
-answer_of_bundle command (Err faults.NotBuilt) = Err refusals.NotBuilt
+answer_of_bundle command (Err (faults.Bundle offset entry rule)) = Err (refusals.BadBundle entry offset rule)
+answer_of_bundle command (Err (faults.Class entry f)) = Err (refusals.BadClass entry f)
 
 -- What a command answers to its input: the text on the output, or a refusal.
 unfoldable pub command_answer : Command → List ℕ → Result (List ℕ) Refusal
@@ -45,13 +41,18 @@ abbrev pub answer : Option Command → List ℕ → Result (List ℕ) Refusal
 answer (Some command) input = command_answer command input
 answer None input = Ok []
 
+-- An input that isn't too long and no jar has this first fault as a bundle, and so is none with any content.
+abbrev pub HasFault : List ℕ → BundleFault → Type 0
+HasFault input f = (length input ≤ bundle_limit) × (bundle_of input ≡ Err f) × (IsTrue (is_jar input) → ⊥) × ((views : List View) → Content input views → ⊥)
+
 -- What an answer means for the input: what is printed is the command's text of the views of the bundle that the input
--- is; an input is refused where it is too long, else where it is a jar, else where it is no bundle with any content.
+-- is; an input is refused where it is too long, else where it is a jar, else for the first fault that it has as a bundle.
 abbrev pub IsPrinted : Command → List ℕ → Result (List ℕ) Refusal → Type 0
 IsPrinted command input (Ok text) = (length input ≤ bundle_limit) × ((views : List View) × Content input views × (text ≡ text_of command views))
 IsPrinted command input (Err refusals.BodyTooLong) = bundle_limit < length input
 IsPrinted command input (Err refusals.Jar) = (length input ≤ bundle_limit) × IsTrue (is_jar input)
-IsPrinted command input (Err refusals.NotBuilt) = (length input ≤ bundle_limit) × (IsTrue (is_jar input) → ⊥) × ((views : List View) → Content input views → ⊥)
+IsPrinted command input (Err (refusals.BadBundle entry offset rule)) = HasFault input (faults.Bundle offset entry rule)
+IsPrinted command input (Err (refusals.BadClass entry f)) = HasFault input (faults.Class entry f)
 
 abbrev pub IsAnswer : Option Command → List ℕ → Result (List ℕ) Refusal → Type 0
 IsAnswer (Some command) input answer = IsPrinted command input answer

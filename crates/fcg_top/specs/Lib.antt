@@ -1,5 +1,6 @@
 pub mod Words
 pub mod Status
 pub mod Text
+pub mod Refused
 pub mod Answer
 pub mod Stopped

@@ -5,6 +5,7 @@ ghost use Rattle.fcg_bytes.specs.Causes.{Rose};
 ghost use Rattle.fcg_top.specs.Words.{command_of};
 ghost use Rattle.fcg_top.specs.Answer.{text_of, answer, Leaves, Tells, errors_of, Makes, Means, IsMeant};
 
+use crate::refusal::print_refusal;
 use crate::status::{Status, Stop};
 use crate::text::{print_list, print_sites};
 use crate::words::{Command, parse_words};
@@ -96,9 +97,23 @@ pub fn run<S: Source, W: Sink, E: Sink>(
                 Status::WriteFailed
             }
         },
-        Err(stop) => {
-            tell(errors, stop.line());
-            stop.status()
+        Err(Stop::Refused(refusal)) => match print_refusal(alloc, refusal) {
+            Ok(line) => {
+                tell(errors, line.as_slice());
+                Status::Refused
+            }
+            Err(_) => {
+                tell(errors, b"no memory\n");
+                Status::NoMemory
+            }
+        },
+        Err(Stop::ReadFailed) => {
+            tell(errors, b"read failed\n");
+            Status::ReadFailed
+        }
+        Err(Stop::NoMemory) => {
+            tell(errors, b"no memory\n");
+            Status::NoMemory
         }
     }
 }

@@ -3,6 +3,7 @@
 #![tactic(auto)]
 
 mod command;
+mod refusal;
 mod status;
 #[cfg(test)]
 mod tests;

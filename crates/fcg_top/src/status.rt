@@ -1,9 +1,9 @@
 //! How a run ended, and why a command stops before it writes.
 
 use fcg_bytes::ReadAllRefusal;
-use fcg_class::BundleFault;
+use fcg_class::{BundleFault, BundleRule};
 use fcg_grammar::ReadError;
-use fcg_views::NoMemory;
+use fcg_views::{ClassFault, NoMemory};
 
 /// How a run ended. Its number is the exit status of the program.
 #[derive(Clone, Copy, Debug, PartialEq, Eq)]
@@ -48,8 +48,21 @@ pub enum Refusal {
     BodyTooLong,
     /// It is a jar.
     Jar,
-    /// It is no bundle, or holds what isn't read yet.
-    NotBuilt,
+    /// It breaks a rule of bundles.
+    BadBundle {
+        /// The number of the entry that was in hand, from 0.
+        entry: u32,
+        /// The place of the item that breaks the rule, in bytes from the start.
+        offset: u32,
+        rule: BundleRule,
+    },
+    /// The class file of an entry has a fault.
+    BadClass {
+        /// The number of the entry, from 0.
+        entry: u32,
+        /// The fault, with its place in the entry's body.
+        fault: ClassFault,
+    },
 }
 
 /// Why a command stopped before it wrote.
@@ -96,38 +109,20 @@ impl From<ReadError<BundleFault>> for Stop {
         match error {
             ReadError::NoMemory => Stop::NoMemory,
             ReadError::Fault(BundleFault::Jar) => Stop::Refused(Refusal::Jar),
-            ReadError::Fault(BundleFault::NotBuilt) => Stop::Refused(Refusal::NotBuilt),
-        }
-    }
-}
-
-impl Stop {
-    ghost use Rattle.std.specs.Prelude.{◌≡◌};
-    ghost use Rattle.fcg_top.specs.Stopped.{status_of, line_of};
-
-    /// The status of a run that stopped so.
-    pub fn status(self) -> Status
-        ensures { result ≡ status_of self }
-    {
-        match self {
-            Stop::Refused(_) => Status::Refused,
-            Stop::ReadFailed => Status::ReadFailed,
-            Stop::NoMemory => Status::NoMemory,
-        }
-    }
-
-    /// The line on the errors.
-    pub fn line(self) -> &'static [u8]
-        ensures { result.now ≡ line_of self }
-    {
-        match self {
-            Stop::Refused(Refusal::BodyTooLong) => {
-                b"{\"fault\":\"BodyTooLong\",\"limit\":67108864}\n"
+            ReadError::Fault(
+                BundleFault::Bundle {
+                    offset,
+                    entry,
+                    rule,
+                },
+            ) => Stop::Refused(Refusal::BadBundle {
+                entry,
+                offset,
+                rule,
+            }),
+            ReadError::Fault(BundleFault::Class { entry, fault }) => {
+                Stop::Refused(Refusal::BadClass { entry, fault })
             }
-            Stop::Refused(Refusal::Jar) => b"{\"fault\":\"Jar\"}\n",
-            Stop::Refused(Refusal::NotBuilt) => b"{\"fault\":\"NotBuilt\"}\n",
-            Stop::ReadFailed => b"read failed\n",
-            Stop::NoMemory => b"no memory\n",
         }
     }
 }

@@ -110,6 +110,31 @@ const CALLS: [u8; 776] = [
     0x60, 0xac, 0x00, 0x00, 0x00, 0x00, 0x00, 0x00,
 ];
 
+// A bundle of a type `p/L` whose method `main` has an `invokedynamic`: its bootstrap method has a handle of the factory of
+// lambdas, and the arguments are a MethodType, a handle of `lambda$main$0`, and the MethodType again.
+const LAMBDA: [u8; 317] = [
+    0x46, 0x43, 0x47, 0x42, 0x00, 0x01, 0x00, 0x00, 0x00, 0x01, 0x00, 0x09, 0x70, 0x2f, 0x4c, 0x2e,
+    0x63, 0x6c, 0x61, 0x73, 0x73, 0x00, 0x00, 0x01, 0x24, 0xca, 0xfe, 0xba, 0xbe, 0x00, 0x00, 0x00,
+    0x41, 0x00, 0x16, 0x01, 0x00, 0x03, 0x70, 0x2f, 0x4c, 0x07, 0x00, 0x01, 0x01, 0x00, 0x03, 0x28,
+    0x29, 0x56, 0x01, 0x00, 0x04, 0x6d, 0x61, 0x69, 0x6e, 0x01, 0x00, 0x0d, 0x6c, 0x61, 0x6d, 0x62,
+    0x64, 0x61, 0x24, 0x6d, 0x61, 0x69, 0x6e, 0x24, 0x30, 0x01, 0x00, 0x04, 0x43, 0x6f, 0x64, 0x65,
+    0x01, 0x00, 0x10, 0x42, 0x6f, 0x6f, 0x74, 0x73, 0x74, 0x72, 0x61, 0x70, 0x4d, 0x65, 0x74, 0x68,
+    0x6f, 0x64, 0x73, 0x01, 0x00, 0x22, 0x6a, 0x61, 0x76, 0x61, 0x2f, 0x6c, 0x61, 0x6e, 0x67, 0x2f,
+    0x69, 0x6e, 0x76, 0x6f, 0x6b, 0x65, 0x2f, 0x4c, 0x61, 0x6d, 0x62, 0x64, 0x61, 0x4d, 0x65, 0x74,
+    0x61, 0x66, 0x61, 0x63, 0x74, 0x6f, 0x72, 0x79, 0x07, 0x00, 0x08, 0x01, 0x00, 0x0b, 0x6d, 0x65,
+    0x74, 0x61, 0x66, 0x61, 0x63, 0x74, 0x6f, 0x72, 0x79, 0x0c, 0x00, 0x0a, 0x00, 0x03, 0x0a, 0x00,
+    0x09, 0x00, 0x0b, 0x0f, 0x06, 0x00, 0x0c, 0x0c, 0x00, 0x05, 0x00, 0x03, 0x0a, 0x00, 0x02, 0x00,
+    0x0e, 0x0f, 0x06, 0x00, 0x0f, 0x10, 0x00, 0x03, 0x01, 0x00, 0x03, 0x72, 0x75, 0x6e, 0x01, 0x00,
+    0x16, 0x28, 0x29, 0x4c, 0x6a, 0x61, 0x76, 0x61, 0x2f, 0x6c, 0x61, 0x6e, 0x67, 0x2f, 0x52, 0x75,
+    0x6e, 0x6e, 0x61, 0x62, 0x6c, 0x65, 0x3b, 0x0c, 0x00, 0x12, 0x00, 0x13, 0x12, 0x00, 0x00, 0x00,
+    0x14, 0x00, 0x21, 0x00, 0x02, 0x00, 0x00, 0x00, 0x00, 0x00, 0x00, 0x00, 0x02, 0x00, 0x09, 0x00,
+    0x04, 0x00, 0x03, 0x00, 0x01, 0x00, 0x06, 0x00, 0x00, 0x00, 0x13, 0x00, 0x01, 0x00, 0x00, 0x00,
+    0x00, 0x00, 0x07, 0xba, 0x00, 0x15, 0x00, 0x00, 0x57, 0xb1, 0x00, 0x00, 0x00, 0x00, 0x10, 0x0a,
+    0x00, 0x05, 0x00, 0x03, 0x00, 0x01, 0x00, 0x06, 0x00, 0x00, 0x00, 0x0d, 0x00, 0x01, 0x00, 0x00,
+    0x00, 0x00, 0x00, 0x01, 0xb1, 0x00, 0x00, 0x00, 0x00, 0x00, 0x01, 0x00, 0x07, 0x00, 0x00, 0x00,
+    0x0c, 0x00, 0x01, 0x00, 0x0d, 0x00, 0x03, 0x00, 0x11, 0x00, 0x10, 0x00, 0x11,
+];
+
 // What a run over memory left.
 #[derive(Drop)]
 struct Outcome {
@@ -198,7 +223,14 @@ fn prints_or_refuses(rt: HostRuntime) -> Result<(), Fail> {
             b"FCG".as_slice(),
             Status::Refused,
             "",
-            "{\"fault\":\"NotBuilt\"}\n",
+            "{\"entry\":0,\"fault\":\"BadBundle\",\"offset\":0,\"rule\":\"Cut\"}\n",
+        ),
+        (
+            "list",
+            b"FCGB\x00\x01\xff\xff\xff\xff".as_slice(),
+            Status::Refused,
+            "",
+            "{\"entry\":0,\"fault\":\"BadBundle\",\"offset\":10,\"rule\":\"Cut\"}\n",
         ),
         (
             "list",
@@ -221,7 +253,7 @@ fn prints_or_refuses(rt: HostRuntime) -> Result<(), Fail> {
             b"FCG".as_slice(),
             Status::Refused,
             "",
-            "{\"fault\":\"NotBuilt\"}\n",
+            "{\"entry\":0,\"fault\":\"BadBundle\",\"offset\":0,\"rule\":\"Cut\"}\n",
         ),
         (
             "sites",
@@ -259,6 +291,15 @@ fn prints_the_calls_of_code(rt: HostRuntime) -> Result<(), Fail> {
         ),
         (
             "sites",
+            LAMBDA.as_slice(),
+            concat!(
+                "site p/L.main()V 0 handle6 java/lang/invoke/LambdaMetafactory.metafactory()V\n",
+                "site p/L.main()V 0 handle6 p/L.lambda$main$0()V\n",
+                "sites 2\n",
+            ),
+        ),
+        (
+            "sites",
             CALLS.as_slice(),
             concat!(
                 "site p/Calls.%3Cinit%3E()V 1 special java/lang/Object.%3Cinit%3E()V\n",
@@ -283,6 +324,114 @@ fn prints_the_calls_of_code(rt: HostRuntime) -> Result<(), Fail> {
         assert_eq!(rt; outcome.status, Status::Ok, "{line}");
         assert_eq!(rt; outcome.output.bytes(), output.as_bytes(), "{line}");
     }
+    Ok(())
+}
+
+// The front of a bundle of so many entries.
+fn begin_bundle(alloc: Global, count: u8) -> Result<Vec<u8>, Fail> {
+    let mut bytes = b"FCGB\x00\x01\x00\x00\x00".to_vec(alloc)?;
+    bytes.push(count)?;
+    Ok(bytes)
+}
+
+// An entry more.
+fn push_entry(bytes: &mut Vec<u8>, path: &[u8], body: &[u8]) -> Result<(), Fail> {
+    bytes.extend_from_slice(&u16::try_from(path.len())?.to_be_bytes())?;
+    bytes.extend_from_slice(path)?;
+    bytes.extend_from_slice(&u32::try_from(body.len())?.to_be_bytes())?;
+    bytes.extend_from_slice(body)?;
+    Ok(())
+}
+
+// A bundle of the smallest class file at a path.
+fn bundle_at(alloc: Global, path: &[u8]) -> Result<Vec<u8>, Fail> {
+    let mut bytes = begin_bundle(alloc, 1)?;
+    push_entry(&mut bytes, path, &SMALLEST[23..])?;
+    Ok(bytes)
+}
+
+#[test]
+fn refuses_paths(rt: HostRuntime) -> Result<(), Fail> {
+    let at_length = "{\"entry\":0,\"fault\":\"BadBundle\",\"offset\":10,\"rule\":\"Path\"}\n";
+    let at_path = "{\"entry\":0,\"fault\":\"BadBundle\",\"offset\":12,\"rule\":\"Path\"}\n";
+    for path in [b"a/../I.class".as_slice(), b"\x7f.class".as_slice()] {
+        let bytes = bundle_at(rt.alloc(), path)?;
+        let outcome = run_over(rt.alloc(), "list", &bytes, &[])?;
+        assert_eq!(rt; outcome.status, Status::Refused);
+        assert_eq!(rt; outcome.errors.bytes(), at_path.as_bytes());
+    }
+    for len in [0, 1025] {
+        let path = vec![in rt.alloc(); b'a'; len]?;
+        let bytes = bundle_at(rt.alloc(), path.as_slice())?;
+        let outcome = run_over(rt.alloc(), "list", &bytes, &[])?;
+        assert_eq!(rt; outcome.status, Status::Refused, "{len}");
+        assert_eq!(rt; outcome.errors.bytes(), at_length.as_bytes(), "{len}");
+    }
+    let mut twice = begin_bundle(rt.alloc(), 2)?;
+    push_entry(&mut twice, b"I.class", &SMALLEST[23..])?;
+    push_entry(&mut twice, b"I.class", &SMALLEST[23..])?;
+    let outcome = run_over(rt.alloc(), "list", &twice, &[])?;
+    assert_eq!(rt; outcome.status, Status::Refused);
+    assert_eq!(rt;
+        outcome.errors.bytes(),
+        b"{\"entry\":1,\"fault\":\"BadBundle\",\"offset\":78,\"rule\":\"Path\"}\n".as_slice()
+    );
+    Ok(())
+}
+
+#[test]
+fn passes_entries_over(rt: HostRuntime) -> Result<(), Fail> {
+    let mut bytes = begin_bundle(rt.alloc(), 3)?;
+    push_entry(&mut bytes, b"a.txt", b"no class file")?;
+    push_entry(&mut bytes, b"I.class", &SMALLEST[23..])?;
+    push_entry(&mut bytes, b"META-INF/versions/9/I.class", &SMALLEST[23..])?;
+    let outcome = run_over(rt.alloc(), "list", &bytes, &[])?;
+    assert_eq!(rt; outcome.status, Status::Ok);
+    assert_eq!(rt;
+        outcome.output.bytes(),
+        b"type I\ntypes 1 methods 0\n".as_slice()
+    );
+    Ok(())
+}
+
+#[test]
+fn refuses_class_files(rt: HostRuntime) -> Result<(), Fail> {
+    // a byte of a name
+    let mut unreadable = SMALLEST.to_vec(rt.alloc())?;
+    if let Some(byte) = unreadable.get_mut(45) {
+        *byte = 0;
+    }
+    let outcome = run_over(rt.alloc(), "list", &unreadable, &[])?;
+    assert_eq!(rt; outcome.status, Status::Refused);
+    assert_eq!(rt;
+        outcome.errors.bytes(),
+        b"{\"entry\":0,\"fault\":\"BadClass\",\"index\":3,\"offset\":22,\"rule\":\"BadUtf8\"}\n".as_slice()
+    );
+    // a body without its last byte
+    let mut cut = SMALLEST.to_vec(rt.alloc())?;
+    cut.pop();
+    if let Some(len) = cut.get_mut(22) {
+        *len = 52;
+    }
+    let outcome = run_over(rt.alloc(), "list", &cut, &[])?;
+    assert_eq!(rt; outcome.status, Status::Refused);
+    assert_eq!(rt;
+        outcome.errors.bytes(),
+        b"{\"entry\":0,\"fault\":\"BadClass\",\"index\":0,\"offset\":51,\"rule\":\"Cut\"}\n".as_slice()
+    );
+    Ok(())
+}
+
+#[test]
+fn refuses_what_follows(rt: HostRuntime) -> Result<(), Fail> {
+    let mut bytes = SMALLEST.to_vec(rt.alloc())?;
+    bytes.push(0)?;
+    let outcome = run_over(rt.alloc(), "list", &bytes, &[])?;
+    assert_eq!(rt; outcome.status, Status::Refused);
+    assert_eq!(rt;
+        outcome.errors.bytes(),
+        b"{\"entry\":1,\"fault\":\"BadBundle\",\"offset\":76,\"rule\":\"Trailing\"}\n".as_slice()
+    );
     Ok(())
 }
 

@@ -11,6 +11,6 @@ returns-in_err-views-clause-means g c =
     let p = err_from_is_err_and c.from_residual-in_err-views.result c.from_residual-in_err-views.ensures.1 in
     let short = c.in_ok-bytes.ensures.within in
     let same = c.as_slice.ensures in
-    let meant = refused_means c.args.command c.as_slice.result.now c.in_err-views.field-0.0 (omega (arith, ap length same)) c.in_err-views.ensures.jar c.in_err-views.ensures.only in
+    let meant = refused_means c.args.command c.as_slice.result.now c.in_err-views.field-0.0 (omega (arith, ap length same)) c.in_err-views.ensures.jar c.in_err-views.ensures.exact c.in_err-views.ensures.only in
     let P : List ℕ → Type 0 = λ (bytes : List ℕ). IsMeant (Some c.args.command) bytes (Err (stop_of_bundle c.in_err-views.field-0.0)) in
     rw (p.1, p.2) (read_to_end P (g.S.Source.left c.args.input.now) (g.S.Source.left c.read_all.new.source) c.in_ok-bytes.bytes c.in_ok-bytes.ensures.ok c.in_ok-bytes.ensures.end (subst P same meant))

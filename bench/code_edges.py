@@ -1,4 +1,4 @@
-"""Edges and mutations of Code attributes, fields and modules, for differential.py.
+"""Edges and mutations of Code attributes, fields, bootstrap methods and modules, for differential.py.
 
 Each is a class file, most of them of one method. All that is random comes from the source of chance that is
 given.
@@ -49,9 +49,10 @@ class Kit:
         pool.raw(b"\x06abcdefgh", 1)
         pool.entry(8, self.note)
         pool.raw(b"\x0f\x06" + u2(self.method))
+        self.handles = [pool.raw(b"\x0f" + bytes([kind]) + u2(named)) for kind, named in self.called()]
         pool.entry(16, self.kind)
         pool.entry(17, 0, pair)
-        pool.entry(18, 0, pair)
+        self.dynamics = [pool.entry(18, row, pair) for row in (0, 1, 2, 3, 0xFFFF)]
         pool.entry(19, self.note)
         pool.entry(20, self.note)
         empty = pool.utf8(b"")
@@ -65,6 +66,24 @@ class Kit:
             pool.entry(tag, owner, pool.entry(12, self.name, self.note))
             pool.entry(tag, self.this, pool.entry(12, self.name, kind))
             pool.entry(tag, self.this, pool.entry(12, self.name, self.int + self.kind - kind))
+
+    def called(self):
+        """The kinds of method handles, each with an entry that it may name."""
+        named = {kind: self.static for kind in range(1, 5)}
+        named.update({5: self.method, 6: self.method, 7: self.method, 8: self.method, 9: self.face})
+        return [*named.items(), (6, self.face), (7, self.face)]
+
+    def table(self, *rows):
+        """A BootstrapMethods of rows, each a list of indexes."""
+        return attribute(self.bootstrap, table_content(*rows))
+
+    def linked(self, code, *rows, **how):
+        """The class file of a method with a code, and of rows of BootstrapMethods."""
+        return self.body(attribute(self.code, code_content(code, **how)), more=attributes(self.table(*rows)))
+
+    def dynamic(self, row=0):
+        """An `invokedynamic` of a row."""
+        return b"\xba" + u2(self.dynamics[row]) + b"\0\0"
 
     def body(self, *rows, more=b"\0\0"):
         """The class file of a method with these attributes."""
@@ -97,6 +116,11 @@ class Kit:
                 code += b"\x00" * ((number - len(code)) % 4)
                 code += make(len(code))
         return code + b"\xb6" + called + RETURN
+
+
+def table_content(*rows):
+    """The content of a BootstrapMethods of rows, each a list of indexes, of which the first is that of a handle."""
+    return u2(len(rows)) + b"".join(u2(row[0]) + u2(len(row) - 1) + b"".join(map(u2, row[1:])) for row in rows)
 
 
 def padding(at, fill=b"\0"):
@@ -205,8 +229,9 @@ def reference_edges(kit):
             yield kit.coded(bytes([opcode]) + u2(index) + tail + RETURN)
     for tail in (b"\0\0", b"\xff\xff", b"\xca\xca"):
         yield kit.coded(b"\xb9" + u2(kit.face) + tail)
-    for index in (kit.method, kit.static, kit.made, 0):
-        yield kit.coded(b"\xba" + u2(index) + b"\0\0" + RETURN)
+    good = [kit.handles[4]]
+    for index in list(range(count + 3)) + [0xFFFF, 0x0100 + kit.dynamics[0]]:
+        yield kit.linked(b"\xba" + u2(index) + b"\xca\xca" + RETURN, good, good)
 
 
 def descriptor_edges():
@@ -283,6 +308,73 @@ def attribute_edges(kit):
     for count, size in ((1, 0), (1, 2), (1, 7), (1, 8), (1, 9), (2, 10), (65535, 80)):
         yield kit.body(attribute(kit.code, plain_rows + u2(count) + bytes(size)))
         yield kit.body(attribute(kit.code, plain_rows + u2(count) + bytes(size + 2)))
+
+
+def linked_edges(kit):
+    """Rows of BootstrapMethods with each index of the pool, and what uses them."""
+    count = len(kit.pool.parts)
+    good, site = kit.handles[4], kit.dynamic()
+    for index in list(range(count + 3)) + [0xFFFF]:
+        for row in ([index], [good, index], [good, index, good], [index, good]):
+            yield kit.linked(site, row)
+        yield kit.linked(kit.dynamic(1), [index], [good])
+    for rows in ([], [[good]], [[good], [good, good]], [[good]] * 3, [[0]] * 3, [[good], [0], [good, 0]]):
+        for number in range(5):
+            yield kit.linked(b"\0" + kit.dynamic(number), *rows)
+            yield kit.linked(kit.dynamic(number) + b"\xb8" + u2(kit.method) + kit.dynamic(0) + RETURN, *rows)
+            yield kit.linked(kit.dynamic(number), *rows) + b"\0"
+        yield kit.coded(kit.dynamic(0)) + b"\0"
+    yield kit.linked(b"".join(kit.dynamic(number % 4) + kit.everything()[-4:-1] for number in range(40)),
+                     [good], kit.handles, kit.handles[:4], kit.handles[::-1])
+    yield from broken_handle_edges()
+    yield from table_edges(kit)
+
+
+def broken_handle_edges():
+    """Handles of each kind with another owner, name or descriptor, used and not used, alone and before other faults."""
+    rows = [(b"o/W", b"go", descriptor) for descriptor in DESCRIPTORS + FIELDS[:6]]
+    rows += [(b"", b"go", b"()V"), (b"o", b"", b"()V"), (b"", b"", b"x"), (b"o.W;[/(%", b"a.b;[/(%", b"(La.b[/(%;)V"),
+             (b"[I", b"clone", b"()Ljava/lang/Object;")]
+    for owner, name, descriptor in rows:
+        kit = Kit()
+        good = kit.handles[5]
+        for kind in range(1, 10):
+            tag = 9 if kind < 5 else 11 if kind == 9 else 10
+            handle = kit.pool.raw(b"\x0f" + bytes([kind]) + u2(kit.pool.called(owner, name, descriptor, tag)))
+            yield kit.linked(kit.dynamic(), [handle])
+            yield kit.linked(b"\0" + kit.dynamic(), [good, handle, 0])
+            yield kit.linked(b"\0" + kit.dynamic(), [good, 0, handle])
+            yield kit.linked(kit.dynamic(), [good], [handle, 0])
+
+
+def table_edges(kit):
+    """BootstrapMethods cut at each length and with other counts, more than one of it, and at other places."""
+    content = table_content([kit.handles[4], kit.kind, kit.handles[6]], [kit.handles[5]], [0, 0])
+    code = attribute(kit.code, code_content(kit.dynamic(0) + kit.dynamic(1) + RETURN))
+    note = attribute(kit.note, b"abc")
+    good = attribute(kit.bootstrap, content)
+    for length in range(len(content) + 3):
+        for after in ((), (note,)):
+            yield kit.body(code, more=attributes(attribute(kit.bootstrap, content[:length] + bytes(length - len(content[:length]))), *after))
+            yield kit.body(code, more=attributes(attribute(kit.bootstrap, content, length), *after))
+    for length in (0x80000000, 0xFFFFFFFF, 0x01000000 + len(content)):
+        yield kit.body(code, more=attributes(attribute(kit.bootstrap, content, length)))
+    for place in (0, 2, 4, 6, 10, 12):
+        for number in (0, 1, 2, 3, 4, 0x0100, 0xFFFF):
+            changed = content[:place] + u2(number) + content[place + 2:]
+            yield kit.body(code, more=attributes(attribute(kit.bootstrap, changed)))
+    bad = attribute(kit.bootstrap, b"")
+    for rows in ((good, good), (good, note, good), (note, good), (good, note), (bad,), (bad, good), (good, bad), (good, good[:2]),
+                 (good, good[:5]), (good, bad[:2] + u4(9)), (note, good, note), (code, good), (good,) * 3):
+        yield kit.body(code, more=attributes(*rows))
+        yield kit.body(more=attributes(*rows))
+        yield kit.body(code, more=attributes(*rows)) + b"\0"
+        yield kit.body(code, *rows, more=attributes(good))
+        yield kit.body(attribute(kit.code, code_content(kit.dynamic(), inner=attributes(*rows))), more=attributes(good))
+        yield kit.with_fields((kit.name, kit.int, attributes(*rows)), attributes=attributes(good))
+    whole = kit.body(code, more=attributes(note, good))
+    for length in range(len(whole) - len(good) - 20, len(whole)):
+        yield whole[:length]
 
 
 def class_edges(kit):
@@ -370,7 +462,7 @@ def module_edges():
         for number, body in enumerate(make()):
             if number % 4 == 0 and len(body) < 5000:
                 yield as_module(body)
-    for make in (attribute_edges, class_edges, switch_edges):
+    for make in (attribute_edges, class_edges, switch_edges, linked_edges):
         for number, body in enumerate(make(Kit())):
             if number % 5 == 0 and len(body) < 5000:
                 yield as_module(body)
@@ -382,6 +474,7 @@ def edges():
     for make in (opcode_edges, wide_edges, switch_edges, length_edges, reference_edges, attribute_edges):
         yield from make(kit)
     yield from class_edges(Kit())
+    yield from linked_edges(Kit())
     yield from descriptor_edges()
     yield from field_edges()
     yield from module_edges()
@@ -411,11 +504,13 @@ def random_code(kit, chance):
             opcode = chance.choice(SITES)
             index = kit.face if opcode in (183, 184) and chance.random() < 0.3 else kit.index(opcode)
             code += bytes([opcode]) + u2(index) + (b"\x01\x00" if opcode == 185 else b"")
-        elif what < 0.88:
+        elif what < 0.86:
             low = chance.randrange(-3, 3)
             code += table(len(code), low, low + chance.randrange(4))
-        elif what < 0.96:
+        elif what < 0.92:
             code += lookup(len(code), chance.randrange(4))
+        elif what < 0.97:
+            code += kit.dynamic(chance.choice((0, 0, 0, 1, 1, 2)) if chance.random() < 0.98 else chance.randrange(5))
         elif what < 0.98:
             code += chance.choice((b"\xc4\x15ab", b"\xc4\x84abcd", b"\xc4\xa9ab"))
         else:
@@ -435,8 +530,28 @@ def some_fields(kit, chance):
     return fields
 
 
+def some_rows(kit, chance):
+    """The rows of a BootstrapMethods, most of them good."""
+    rows = []
+    for _ in range(chance.choice((3, 3, 3, 3, 4, 6)) if chance.random() < 0.95 else chance.randrange(4)):
+        some = [kit.kind, kit.made, kit.note, *kit.handles, *kit.handles]
+        row = [chance.choice(kit.handles)] + [chance.choice(some) for _ in range(chance.choice((0, 0, 1, 2, 3, 5)))]
+        if chance.random() < 0.02:
+            row[chance.randrange(len(row))] = chance.randrange(len(kit.pool.parts) + 2)
+        rows.append(row)
+    return rows
+
+
+def some_attributes(kit, chance):
+    """The attributes of a class, BootstrapMethods most often among them."""
+    rows = [attribute(kit.note, bytes(chance.randrange(4))) for _ in range(chance.choice((0, 0, 1)))]
+    for _ in range(1 if chance.random() < 0.96 else chance.choice((0, 2))):
+        rows.insert(chance.randrange(len(rows) + 1), kit.table(*some_rows(kit, chance)))
+    return attributes(*rows)
+
+
 def nearly(chance, flags=FLAGS):
-    """A random class file with fields and bodies that is often plain, and else only just not."""
+    """A random class file with fields and bodies that often has no fault, and else often only one."""
     kit = Kit()
     methods = []
     for number in range(chance.randrange(1, 4)):
@@ -448,13 +563,17 @@ def nearly(chance, flags=FLAGS):
                 content = content[:chance.randrange(len(content))]
             rows.insert(chance.randrange(len(rows) + 1), attribute(kit.code, content))
         methods.append((kit.pool.utf8(b"m%d" % number), kit.kind, attributes(*rows)))
-    return class_file(kit.pool, kit.this, methods, fields=some_fields(kit, chance), flags=flags)
+    more = some_attributes(kit, chance)
+    return class_file(kit.pool, kit.this, methods, attributes=more, fields=some_fields(kit, chance), flags=flags)
 
 
 def dense():
     """A class file with a bit of everything in its code and with fields, for mutations."""
     kit = Kit()
-    content = code_content(kit.everything(), b"12345678", attributes(attribute(kit.note, b"in")))
+    code = kit.dynamic(1) + b"\0" + kit.dynamic(0) + b"\0\0\0\0\0"
+    content = code_content(code + kit.everything(), b"12345678", attributes(attribute(kit.note, b"in")))
     rows = attributes(attribute(kit.note, b""), attribute(kit.code, content))
     fields = [(kit.name, kit.int, b"\0\0"), (kit.note, kit.pool.utf8(b"[La/b;"), attributes(attribute(kit.note, b"in")))]
-    return class_file(kit.pool, kit.this, [(kit.name, kit.kind, rows)], fields=fields)
+    linked = kit.table([kit.handles[4], kit.kind, kit.handles[8]], [kit.handles[0], kit.handles[9]], [kit.handles[5], 0])
+    more = attributes(attribute(kit.note, b"x"), linked)
+    return class_file(kit.pool, kit.this, [(kit.name, kit.kind, rows)], attributes=more, fields=fields)

@@ -2,8 +2,8 @@
 """Compares ./fcg list and ./fcg sites with plain.py on mutated small bundles.
 
 Hand-made class files and some of javac are changed: one byte to each of several values at every place,
-truncation at every length, doubled, dropped and swapped slices, random edits, random class files that are
-nearly plain, and lists of edges of the formats. All that is random comes from a fixed seed. Each input is
+truncation at every length, doubled, dropped and swapped slices, random edits, random class files that have
+few faults or none, and lists of edges of the formats. All that is random comes from a fixed seed. Each input is
 one run of each command; its status, output and errors must be those of plain.py. At the first difference
 the input is printed in hex, and the exit status is 1.
 """
@@ -11,6 +11,7 @@ the input is printed in hex, and the exit status is 1.
 import argparse
 import collections
 import hashlib
+import json
 import os
 import random
 import shutil
@@ -36,17 +37,19 @@ abstract class C extends Thread {
         switch (a) { case 7: run(); case 900: b.size(); } try { return c(a, b); } finally { b.clear(); } }
 }
 class D { static int i = 3; static final String S = "s"; private long[] l; enum \u00c9 { P; D d = new D(); static D e = P.d; }
+    Runnable r(int a) { return () -> System.out.println(a + S + i); }
+    java.util.function.Supplier<D> s() { return D::new; }
     D n(D a) { i += System.out.hashCode(); return i > 3 ? n(new D()) : new D[][] { { a } }[0].clone()[0]; } }
 """
 
 
 def tiny():
-    """The smallest plain class file."""
+    """A small class file."""
     return hostile.smallest()
 
 
 def rich():
-    """A hand-made class file with a bit of everything that is plain."""
+    """A hand-made class file without code, with a bit of everything else."""
     pool = Pool()
     this = pool.named(b"p/A$b\xc3\xa9-\xe2\x82\xac")
     above = pool.named(b"O")
@@ -62,7 +65,7 @@ def rich():
 
 
 def of_javac():
-    """Plain class files of javac, or none where there is no javac."""
+    """Class files of javac, or none where there is no javac."""
     if shutil.which("javac") is None:
         print("no javac found: without its class files")
         return []
@@ -79,7 +82,7 @@ def of_javac():
             for name in sorted(names):
                 with open(os.path.join(place, name), "rb") as made:
                     bodies.append(made.read())
-    return sorted(body for body in bodies if plain.read_class(body) is not None)
+    return sorted(body for body in bodies if plain.class_fault(body) is None)
 
 
 def alone(body):
@@ -141,7 +144,7 @@ BAD = [b"\x00", b"\x80", b"\xf0\x90\x90\x80", b"(V)V", b"()", b"(L;)V", b"([)V",
 
 
 def nearly(chance):
-    """A random class file that is often plain, and else only just not."""
+    """A random class file that often has no fault, and else often only one."""
     texts = [chance.choice(TEXTS if chance.random() < 0.995 else BAD) for _ in range(chance.randrange(2, 6))]
     texts += [b"A", b"m", b"()V", b"(I)V", b"[La;"]
     chance.shuffle(texts)
@@ -400,7 +403,7 @@ def bundle_edges():
     good = plain.pack([(b"a.class", body), (b"b.class", body)])
     for front in (b"FCGA\0\x01", b"fcgb\0\x01", b"FCGB\0\0", b"FCGB\0\x02", b"FCGB\x01\0", b"FCGB\x01\x01", b"GBFC\0\x01"):
         yield front + good[6:]
-    for count in (0, 1, 3, 0x01000002, 0x80000002, 0xFFFFFFFF):
+    for count in (0, 1, 2, 3, 0x01000002, 0x80000002, 0xFFFFFFFF):
         yield good[:6] + u4(count) + good[10:]
     for size in (len(body) - 1, len(body) + 1, 0x80000000, 0xFFFFFFFF, 0x01000000 + len(body)):
         yield plain.pack([(b"a.class", body)])[:-len(body) - 4] + u4(size) + body
@@ -411,11 +414,53 @@ def bundle_edges():
         yield front + good
 
 
+def entry_edges():
+    """Bundles of several entries of which some are passed over, some aren't shown, and some have a fault."""
+    small, bad = tiny(), tiny() + b"\0"
+    called = code_edges.dense()
+    names = (b"a.class", b"a.txt", b"META-INF/versions/9/a.class", b"META-INF/MANIFEST.MF", b"META-INF/versions/a")
+    bodies = (small, bad, called, as_module(small), as_module(bad), b"", b"PK\3\4", called[:-1])
+    for name in names:
+        for body in bodies:
+            yield plain.pack([(name, body)])
+            yield plain.pack([(name, body)]) + b"\0"
+            yield plain.pack([(name, body)])[:-1]
+            for other in names:
+                yield plain.pack([(name, body), (b"x/" + other, small), (other, called)])
+                yield plain.pack([(b"x/" + other, small), (name, body), (other, bad)])
+    for size in (0, 1, 2, 5, 1024, 1025, 1026, 0x8000, 0xFFFF):
+        for there in (0, 1, size):
+            yield b"FCGB\0\1" + u4(1) + u2(size) + b"p" * there
+            yield b"FCGB\0\1" + u4(1) + u2(size) + b"p" * there + b"\0\0\0\0"
+    for number in (1, 255, 256, 300):
+        yield plain.pack([(b"%d" % one, b"") for one in range(number)] + [(b"a.class", bad)])
+        yield plain.pack([(b"%d" % one, b"") for one in range(number)] + [(b"..", bad)])
+        yield plain.pack([(b"%d" % one, b"") for one in range(number)]) + b"\0"
+
+
+def site_limit_edges():
+    """Class files and bundles of about as many sites as there may be."""
+    million, one = hostile.calls(1000000), hostile.calls(1)
+    place = b"META-INF/versions/9/%d.class"
+    yield alone(hostile.calls(1000001))
+    four = [(place % number, million) for number in range(4)]
+    yield plain.pack(four)
+    yield plain.pack(four + [(b"m.class", as_module(million)), (b"t.txt", million)])
+    for name in (b"a.class", place % 9):
+        yield plain.pack(four + [(b"m.class", as_module(million)), (name, one)])
+        yield plain.pack(four + [(name, one + b"\0")])
+    for count in (999999, 1000000, 1000001):
+        for handles in (0, 1, 2):
+            yield alone(hostile.linked_calls(count, handles))
+
+
 def inputs():
     """Every input with the name of its kind."""
     chance = random.Random(SEED)
     bases = [tiny(), rich(), code_edges.dense()] + of_javac()
     yield from (("edges of bundles", data) for data in bundle_edges())
+    yield from (("edges of entries", data) for data in entry_edges())
+    yield from (("limits of sites", data) for data in site_limit_edges())
     yield from (("edges of class files", data) for data in class_edges())
     yield from (("edges of descriptors", with_descriptor(text)) for text in descriptor_edges())
     yield from (("edges of code", alone(body)) for body in code_edges.edges())
@@ -431,14 +476,14 @@ def inputs():
         yield from (("class file, truncated", alone(data)) for data in truncated(body))
         yield from (("class file, slices", alone(data)) for data in sliced(body, chance, 100))
         yield from (("class file, edits", alone(data)) for data in edited(body, chance, 200))
-    yield from (("class file, nearly plain", alone(nearly(chance))) for _ in range(600))
-    yield from (("code, nearly plain", alone(code_edges.nearly(chance))) for _ in range(1000))
-    yield from (("module, nearly plain", alone(code_edges.nearly(chance, FLAGS | MODULE))) for _ in range(200))
+    yield from (("class file, random", alone(nearly(chance))) for _ in range(600))
+    yield from (("code, random", alone(code_edges.nearly(chance))) for _ in range(1000))
+    yield from (("module, random", alone(code_edges.nearly(chance, FLAGS | MODULE))) for _ in range(200))
     for count in (2, 3, 5):
         for _ in range(20):
-            yield "bundle, nearly plain", plain.pack(
+            yield "bundle, random", plain.pack(
                 [(b"%d.class" % number, chance.choice((nearly, code_edges.nearly))(chance)) for number in range(count)])
-            yield "bundle, nearly plain, modules", plain.pack(
+            yield "bundle, random, modules", plain.pack(
                 [(b"%d.class" % number, code_edges.nearly(chance, chance.choice((FLAGS, FLAGS | MODULE)))) for number in range(count)])
 
 
@@ -496,7 +541,8 @@ class Tally:
         for command, words in measure.COMMANDS.items():
             want = plain.answer(data, command)
             if want[0] != 0:
-                what = want[2].decode().strip()
+                line = json.loads(want[2])
+                what = " ".join(filter(None, (line["fault"], line.get("rule"))))
             if not self.options.count:
                 self.compare(kind, data, words, want)
         self.counts[kind, what] += 1

@@ -129,7 +129,7 @@ def attributes(*rows):
 
 
 def smallest():
-    """The smallest plain class file."""
+    """A small class file."""
     pool = Pool()
     return class_file(pool, pool.named(b"A"))
 
@@ -315,7 +315,7 @@ def field_cases():
 
 
 def sized(size):
-    """A plain bundle of exactly `size` bytes: one class file with one long attribute."""
+    """A bundle of exactly `size` bytes: one class file with one long attribute."""
     pool = Pool()
     this = pool.named(b"A")
     word = pool.utf8(b"Pad")
@@ -610,21 +610,148 @@ def code_cases():
     yield "65535 empty attributes in the code of 169 methods", lambda part: one(inner_body(part, b"")), True, both
     yield ("the same, name of 65535 bytes",
            lambda part: one(inner_body(part, (b"BootstrapMethods" * 5000)[:U2])), True, both)
-    yield ("the same, a name that is refused", lambda part: one(inner_body(part, b"BootstrapMethods")), False, both)
+    yield ("the same, named BootstrapMethods", lambda part: one(inner_body(part, b"BootstrapMethods")), True, both)
+
+
+def table(rows):
+    """The content of a BootstrapMethods of rows, each the index of a handle and the bytes of its arguments' indexes."""
+    return u2(len(rows)) + b"".join(u2(handle) + u2(len(arguments) // 2) + arguments for handle, arguments in rows)
+
+
+class Dynamic:
+    """A class in the making whose methods have `invokedynamic`s, with handles that call, and one that doesn't."""
+
+    def __init__(self, owner=b"o", name=b"h", descriptor=b"()V"):
+        pool = self.pool = Pool()
+        self.this = pool.named(b"A")
+        self.void = pool.utf8(b"()V")
+        self.code = pool.utf8(b"Code")
+        self.word = pool.utf8(b"BootstrapMethods")
+        self.owner, self.pair = pool.named(owner), pool.pair(name, descriptor)
+        self.handle = self.handle_of(self.pair)
+        field = pool.entry(9, self.owner, pool.pair(name, b"I"))
+        self.getter = pool.raw(b"\x0f\1" + u2(field))
+        self.type = pool.entry(16, self.void)
+
+    def handle_of(self, pair):
+        """The index of a new handle that calls a static method of a pair of name and type."""
+        return self.pool.raw(b"\x0f\6" + u2(self.pool.entry(10, self.owner, pair)))
+
+    def site(self, row=0):
+        """An `invokedynamic` of a row."""
+        return b"\xba" + u2(self.pool.entry(18, row, self.pair)) + b"\0\0"
+
+    def data(self, codes, rows):
+        """The class file of methods of these codes, and of rows of BootstrapMethods."""
+        methods = []
+        for number, code in enumerate(codes):
+            methods.append((self.pool.utf8(stem(number)), self.void, attributes(attribute(self.code, code_content(code)))))
+        more = attributes(attribute(self.word, table(rows)))
+        return class_file(self.pool, self.this, methods, attributes=more)
+
+
+PER_DYNAMIC = U2 // 5
+
+
+def linked_calls(sites, handles):
+    """A class file of an `invokedynamic` of so many handles, and then of so many calls."""
+    made = Dynamic()
+    call = STATIC + u2(made.pool.called(b"A", b"a"))
+    codes = [made.site()]
+    while sites > 0:
+        codes.append(call * min(sites, PER_CODE))
+        sites -= PER_CODE
+    rows = [(made.handle, u2(made.handle) * (handles - 1))] if handles else [(made.getter, b"")]
+    return made.data(codes, rows)
+
+
+def used_often(methods, arguments, size=U2, per_code=PER_DYNAMIC, handle=False):
+    """A class file of so many methods full of one `invokedynamic`, whose row has `size` arguments of a kind."""
+    made = Dynamic()
+    index = {"types": made.type, "getters": made.getter, "handles": made.handle}[arguments]
+    code = made.site() * per_code
+    return made.data([code] * methods, [(made.handle if handle else made.getter, u2(index) * size)])
+
+
+def last_missing():
+    """A class file of a thousand methods full of `invokedynamic`, of which the last has no row."""
+    made = Dynamic()
+    code = made.site() * (PER_DYNAMIC - 1)
+    return made.data([code + made.site()] * 999 + [code + made.site(1)], [(made.getter, b"")])
+
+
+def rows_unused(part, size=0):
+    """A class file of 65,535 rows that none uses, or of as many as fit of `size` arguments."""
+    made = Dynamic()
+    count = min(U2, (LIMIT - 1000000) // (4 + 2 * size))
+    return made.data([b"\xb1"], [(made.handle, u2(made.type) * size)] * int(count * part))
+
+
+def rows_used_once(part, arguments, size):
+    """A class file of 60,000 rows, or of as many as fit, each of `size` arguments of a kind and used once."""
+    made = Dynamic()
+    index = {"types": made.type, "getters": made.getter, "handles": made.handle}[arguments]
+    count = int(min(60000, (LIMIT - 3000000) // (20 + 2 * size)) * part)
+    sites = [made.site(row) for row in range(count)]
+    codes = [b"".join(sites[start:start + PER_DYNAMIC]) for start in range(0, count, PER_DYNAMIC)]
+    return made.data(codes, [(made.getter, u2(index) * size)] * count)
+
+
+def own_handles(part, descriptor):
+    """A class file of 16,000 handles of names of their own and one descriptor, in one row that is used 40 times."""
+    made = Dynamic(descriptor=descriptor)
+    kind = made.pool.utf8(descriptor)
+    indexes = []
+    for number in range(int(16000 * part)):
+        indexes.append(made.handle_of(made.pool.entry(12, made.pool.utf8(b"n" * 1000 + stem(number)), kind)))
+    return made.data([made.site() * 40], [(made.handle, b"".join(map(u2, indexes)))])
+
+
+def dynamic_cases():
+    """Each case of `invokedynamic`: its name, a function of its part, whether it has a quarter, and its commands."""
+    both = ("list", "sites")
+    for arguments in ("types", "getters"):
+        yield ("a row of 65535 %s, used by 13107 invokedynamic" % arguments,
+               lambda part, a=arguments: one(used_often(1, a, int(U2 * part))), True, both)
+        yield ("the same, in 1000 methods", lambda part, a=arguments: one(used_often(int(1000 * part), a)), True, both)
+    yield ("64 MB of invokedynamic with a row without sites",
+           lambda part: one(used_often(int(1000 * part), "types", 0)), True, both)
+    yield "the same, the last row missing", lambda part: one(last_missing()), False, both
+    yield "a row of 60000 handles, used 16 times", lambda part: one(used_often(1, "handles", int(60000 * part), 16)), True, both
+    yield "a row of 60000 handles, used 17 times, refused", lambda part: one(used_often(1, "handles", 60000, 17)), False, both
+    yield "a row of 60000 handles, used in 1000 methods, refused", lambda part: one(used_often(1000, "handles", 60000)), False, both
+    yield "a row of 65535 handles, used until there are too many", lambda part: one(used_often(1, "handles", U2)), False, both
+    yield "1000000 handles, a row of one", lambda part: one(used_often(int(80 * part), "types", 0, 12500, True)), True, both
+    yield "1000001 handles, a row of one, refused", lambda part: one(linked_calls(1000000, 1)), False, both
+    yield ("4000000 handles in four class files",
+           lambda part: bundle_of(*[used_often(int(80 * part), "types", 0, 12500, True)] * 4), True, ("list",))
+    yield "65535 rows that none uses", lambda part: one(rows_unused(part)), True, both
+    yield "the same, copies to the limit", lambda part: full(rows_unused(1), int(LIMIT * part)), True, both
+    yield "rows of 500 arguments that none uses", lambda part: one(rows_unused(part, 500)), True, both
+    yield "rows of 65535 arguments that none uses", lambda part: one(rows_unused(part, U2)), True, both
+    for arguments, size in (("types", 0), ("types", 500), ("getters", 500), ("types", U2), ("getters", U2), ("handles", 16)):
+        yield ("rows of %d %s, each used once" % (size, arguments),
+               lambda part, a=arguments, s=size: one(rows_used_once(part, a, s)), True, both)
+    for descriptor, what in ((b"()V", "a short descriptor"), (ARRAYS, "255 arrays of 255")):
+        yield ("16000 handles of own names and %s, in a row that is used 40 times" % what,
+               lambda part, d=descriptor: one(own_handles(part, d)), True, both[:1] if descriptor == ARRAYS else both)
+    yield ("modules of 64 MB of invokedynamic",
+           lambda part: one(as_module(used_often(int(1000 * part), "types", 0))), True, both)
 
 
 def views(data):
-    """The views of a plain bundle, or None."""
-    if len(data) > LIMIT or data[:4] == plain.JAR:
-        return None
-    return plain.views(data)
+    """The views of a bundle, or the line of its refusal."""
+    try:
+        return plain.shown(data)
+    except plain.Refused as refused:
+        return refused.line
 
 
-def expected(data, found, command):
+def expected(found, command):
     """The status, the size and SHA-256 of the output, and the errors that plain.py says."""
     state = hashlib.sha256()
-    if found is None:
-        return 3, 0, state.hexdigest(), plain.answer(data)[2]
+    if isinstance(found, bytes):
+        return 3, 0, state.hexdigest(), found
     size = 0
     for line in plain.LINES[command](found):
         size += len(line)
@@ -639,7 +766,7 @@ def measure_case(folder, name, data, runs, commands):
     cats, _ = measure.least(path, measure.CAT, runs)
     agree = True
     for command in commands:
-        agree = measure_run(path, name, data, runs, command, expected(data, found, command), cats) and agree
+        agree = measure_run(path, name, data, runs, command, expected(found, command), cats) and agree
     return agree
 
 
@@ -674,6 +801,7 @@ def all_cases():
     for name, build, quarters in cases():
         yield name, build, quarters, ("list",)
     yield from code_cases()
+    yield from dynamic_cases()
     yield from site_cases()
     yield from field_cases()
 

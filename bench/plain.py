@@ -1,10 +1,11 @@
 #!/usr/bin/env python3
-"""An independent reader of plain class files and plain bundles.
+"""An independent reader of class files and bundles, with the first fault of each.
 
 It is written from the formats' description (after JVMS 4) and shares no code with the program, so that
 the two can be compared byte by byte. As a script it answers as `fcg list` or `fcg sites` should.
 """
 
+import array
 import collections
 import re
 import struct
@@ -17,22 +18,46 @@ CODE = 65535
 JAR = b"PK\x03\x04"
 BODY_TOO_LONG = b'{"fault":"BodyTooLong","limit":67108864}\n'
 JAR_FAULT = b'{"fault":"Jar"}\n'
-NOT_BUILT = b'{"fault":"NotBuilt"}\n'
+VERSIONS = b"META-INF/versions/"
 
 # a Utf8 entry: groups of one, two and three bytes
 _UTF8 = re.compile(rb"(?:[\x01-\x7f]|[\xc0-\xdf][\x80-\xbf]|[\xe0-\xef][\x80-\xbf][\x80-\xbf])*", re.S)
 # a field descriptor; the group is its J or D where it is no array
 _FIELD = re.compile(rb"\[{0,255}(?:[BCFISZ]|([DJ])|L[^;]+;)", re.S)
 _WORD = b"ABCDEFGHIJKLMNOPQRSTUVWXYZabcdefghijklmnopqrstuvwxyz0123456789_-$"
-_FORBIDDEN = b"BootstrapMethods"
+_BOOTSTRAP = b"BootstrapMethods"
 _MODULE = 0x8000
 
 # what is read of a class file: the pairs of name and descriptor of its fields, and of each method these and its sites
 View = collections.namedtuple("View", "name module fields methods")
 
 
-class _NotPlain(Exception):
-    """The bytes are no plain class file."""
+class ClassFault(Exception):
+    """The first fault of a class file: the rule's name, the offset in the file and the index in the pool, or 0."""
+
+    def __init__(self, rule, offset, index=0):
+        super().__init__("%s at %d, index %d" % (rule, offset, index))
+        self.rule = rule
+        self.offset = offset
+        self.index = index
+
+    def line(self, entry):
+        """The refusal of a bundle whose entry of this number has the fault."""
+        words = entry, self.index, self.offset, self.rule.encode()
+        return b'{"entry":%d,"fault":"BadClass","index":%d,"offset":%d,"rule":"%s"}\n' % words
+
+
+class Refused(Exception):
+    """Why a bundle is refused: the line that is printed."""
+
+    def __init__(self, line):
+        super().__init__(line)
+        self.line = line
+
+
+def bundle_fault(rule, offset, entry):
+    """The refusal of a bundle by a rule of its own."""
+    return Refused(b'{"entry":%d,"fault":"BadBundle","offset":%d,"rule":"%s"}\n' % (entry, offset, rule.encode()))
 
 
 def _escape_table(extra):
@@ -75,20 +100,24 @@ def is_field_descriptor(text):
 
 
 class _Reader:
-    """A place in the bytes of a class file; every read past the end raises _NotPlain."""
+    """A place in the bytes of a class file and the end of what may be read; an item that passes it is cut."""
 
-    def __init__(self, data):
+    def __init__(self, data, at, end):
         self.data = data
-        self.at = 0
+        self.at = at
+        self.end = end
+
+    def skip(self, count):
+        """Passes over one item of `count` bytes."""
+        if self.at + count > self.end:
+            raise ClassFault("Cut", self.at)
+        self.at += count
 
     def take(self, count):
-        """The next `count` bytes."""
-        end = self.at + count
-        if end > len(self.data):
-            raise _NotPlain
-        part = self.data[self.at:end]
-        self.at = end
-        return part
+        """The next item of `count` bytes."""
+        start = self.at
+        self.skip(count)
+        return self.data[start:self.at]
 
     def u1(self):
         """The next byte."""
@@ -102,74 +131,103 @@ class _Reader:
         """The next four bytes, big-endian."""
         return int.from_bytes(self.take(4), "big")
 
+    def content(self):
+        """A reader of the next attribute's content, whose length comes first; this one passes over it."""
+        length = self.u4()
+        start = self.at
+        self.skip(length)
+        return _Reader(self.data, start, self.at)
 
-def _need(condition):
-    """Raises _NotPlain where the condition does not hold."""
-    if not condition:
-        raise _NotPlain
+    def skip_content(self):
+        """Passes over the next attribute's content, whose length comes first."""
+        self.skip(self.u4())
+
+    def finish(self):
+        """Refuses bytes that follow."""
+        if self.at < self.end:
+            raise ClassFault("Trailing", self.at)
 
 
-# the constants by their tags: what stands after the tag, and the tags that each index of these may name
+# the constants by their tags: the sizes of the items after the tag, and the tags that each index of these may name
 _LAYOUT = {
-    3: (">I", ()), 4: (">I", ()), 5: (">Q", ()), 6: (">Q", ()),
-    7: (">H", ((1,),)), 8: (">H", ((1,),)), 16: (">H", ((1,),)), 19: (">H", ((1,),)), 20: (">H", ((1,),)),
-    9: (">HH", ((7,), (12,))), 10: (">HH", ((7,), (12,))), 11: (">HH", ((7,), (12,))),
-    12: (">HH", ((1,), (1,))), 15: (">BH", None), 17: (">HH", (None, (12,))), 18: (">HH", (None, (12,))),
+    3: ("4s", ()), 4: ("4s", ()), 5: ("8s", ()), 6: ("8s", ()),
+    7: ("H", ((1,),)), 8: ("H", ((1,),)), 16: ("H", ((1,),)), 19: ("H", ((1,),)), 20: ("H", ((1,),)),
+    9: ("HH", ((7,), (12,))), 10: ("HH", ((7,), (12,))), 11: ("HH", ((7,), (12,))),
+    12: ("HH", ((1,), (1,))), 15: ("BH", None), 17: ("HH", (None, (12,))), 18: ("HH", (None, (12,))),
 }
+_ITEMS = {"4s": (4,), "8s": (8,), "H": (2,), "HH": (2, 2), "BH": (1, 2)}
+_UTF8_TAG, _CLASS_TAG, _PAIR_TAG, _HANDLE_TAG, _DYNAMIC_TAG = 1, 7, 12, 15, 18
+_WIDE_TAGS = (5, 6)
 # the tags that a method handle of a kind may name
 _HANDLES = {1: (9,), 2: (9,), 3: (9,), 4: (9,), 5: (10,), 6: (10, 11), 7: (10, 11), 8: (10,), 9: (11,)}
+# the least kind of a method handle that calls a method
+_CALLING = 5
+
+
+def _read_utf8(reader, index):
+    """The text of a Utf8 entry of this index."""
+    length = reader.u2()
+    start = reader.at
+    text = reader.take(length)
+    good = _UTF8.match(text).end()
+    if good < length:
+        raise ClassFault("BadUtf8", start + good, index)
+    return text
+
+
+def _read_entry(reader, index):
+    """The tag of an entry of this index, and its text (Utf8) or its numbers."""
+    start = reader.at
+    tag = reader.u1()
+    if tag == _UTF8_TAG:
+        return tag, _read_utf8(reader, index)
+    if tag not in _LAYOUT:
+        raise ClassFault("BadTag", start, index)
+    layout = _LAYOUT[tag][0]
+    return tag, struct.unpack(">" + layout, b"".join([reader.take(size) for size in _ITEMS[layout]]))
 
 
 def _read_pool(reader):
     """The constant pool: an index gives the tag and the text (Utf8) or the numbers of an entry, or None."""
     count = reader.u2()
     pool = [None]
+    places = [None]
     while len(pool) < count:
-        tag = reader.u1()
-        if tag == 1:
-            text = reader.take(reader.u2())
-            _need(_UTF8.fullmatch(text))
-            pool.append((tag, text))
-        else:
-            _need(tag in _LAYOUT)
-            layout = _LAYOUT[tag][0]
-            pool.append((tag, struct.unpack(layout, reader.take(struct.calcsize(layout)))))
-            if tag in (5, 6):
-                _need(len(pool) < count)
-                pool.append(None)
-    for entry in pool:
-        if entry is not None and entry[0] != 1:
-            _check_entry(pool, *entry)
+        places.append(reader.at)
+        pool.append(_read_entry(reader, len(pool)))
+        # the second index of a Long or Double is unusable; it may also be past the pool
+        if pool[-1][0] in _WIDE_TAGS and len(pool) < count:
+            pool.append(None)
+            places.append(None)
+    for index, entry in enumerate(pool):
+        if entry is not None and entry[0] != _UTF8_TAG:
+            _check_entry(pool, index, places[index])
     return pool
 
 
-def _check_entry(pool, tag, numbers):
-    """Raises _NotPlain where an index of an entry names another kind of entry than it may."""
-    if tag == 15:
-        _need(numbers[0] in _HANDLES)
-        _entry(pool, numbers[1], _HANDLES[numbers[0]])
+def _check_entry(pool, index, place):
+    """Refuses an entry at the pool's end that needs two indexes, and one that names what it may not."""
+    tag, numbers = pool[index]
+    if tag in _WIDE_TAGS and index + 1 == len(pool):
+        raise ClassFault("BadIndex", place, index)
+    if tag == _HANDLE_TAG:
+        kind, named = numbers
+        if kind not in _HANDLES:
+            raise ClassFault("WrongKind", place, index)
+        _entry(pool, named, _HANDLES[kind], place, index)
         return
-    for index, tags in zip(numbers, _LAYOUT[tag][1]):
+    for named, tags in zip(numbers, _LAYOUT[tag][1]):
         if tags is not None:
-            _entry(pool, index, tags)
+            _entry(pool, named, tags, place, index)
 
 
-def _entry(pool, index, tags):
-    """What the entry at `index` holds, which has one of these tags."""
-    _need(index < len(pool) and pool[index] is not None and pool[index][0] in tags)
+def _entry(pool, index, tags, offset, told=None):
+    """What the entry at `index` holds, which has one of these tags; a fault tells `told`, or the index."""
+    if index == 0 or index >= len(pool) or pool[index] is None:
+        raise ClassFault("BadIndex", offset, index if told is None else told)
+    if pool[index][0] not in tags:
+        raise ClassFault("WrongKind", offset, index if told is None else told)
     return pool[index][1]
-
-
-def _utf8(pool, index):
-    """The bytes of the Utf8 entry at `index`."""
-    return _entry(pool, index, (1,))
-
-
-def _class_name(pool, index):
-    """The name, not empty, of the Class entry at `index`."""
-    name = _utf8(pool, _entry(pool, index, (7,))[0])
-    _need(name)
-    return name
 
 
 def _set(*numbers):
@@ -196,178 +254,323 @@ _SITES = {178: (b"staticfield", 3, (9,)), 179: (b"staticfield", 3, (9,)), 187: (
 _KINDS = {9: is_field_descriptor, 10: is_method_descriptor, 11: is_method_descriptor}
 _TABLE = 170
 _LOOKUP = 171
+_INVOKEDYNAMIC = 186
+_WIDE = 196
+_FIRST_FREE = 202
+# the opcodes that may follow a 196, as bytes of a pattern
+_WIDENED = re.compile(_LOCAL + b"|\\x84", re.S)
 
 
-def _after_switch(code, at):
+def _inside(code, end, start, at):
+    """Refuses an instruction at `at` that goes up to `end` of a code that begins at `start` of the file."""
+    if end > len(code):
+        raise ClassFault("CodeCut", start + at)
+
+
+def _after_switch(code, at, start):
     """The place after the switch at `at`."""
-    start = at + 4 - at % 4
+    numbers = at + 4 - at % 4
     if code[at] == _TABLE:
-        _need(start + 12 <= len(code))
-        low, high = struct.unpack_from(">ii", code, start + 4)
-        _need(low <= high)
-        end = start + 12 + 4 * (high - low + 1)
+        _inside(code, numbers + 12, start, at)
+        low, high = struct.unpack_from(">ii", code, numbers + 4)
+        right = low <= high
+        end = numbers + 12 + 4 * (high - low + 1)
     else:
-        _need(start + 8 <= len(code))
-        pairs = struct.unpack_from(">i", code, start + 4)[0]
-        _need(pairs >= 0)
-        end = start + 8 + 8 * pairs
-    _need(end <= len(code))
+        _inside(code, numbers + 8, start, at)
+        pairs = struct.unpack_from(">i", code, numbers + 4)[0]
+        right = pairs >= 0
+        end = numbers + 8 + 8 * pairs
+    if not right:
+        raise ClassFault("BadSwitch", start + at)
+    _inside(code, end, start, at)
     return end
 
 
+def _refuse_instruction(code, at, start):
+    """Refuses the instruction at `at`, which is none of those that are passed over by their length."""
+    if code[at] >= _FIRST_FREE:
+        raise ClassFault("BadOpcode", start + at)
+    if code[at] == _WIDE and at + 1 < len(code) and not _WIDENED.match(code, at + 1):
+        raise ClassFault("BadWide", start + at)
+    raise ClassFault("CodeCut", start + at)
+
+
 class _Body:
-    """What the methods of one class file share while their code is read."""
+    """What the parts of one class file share while they are read."""
 
     def __init__(self, pool):
         self.pool = pool
         self.descriptors = set()
         self.targets = {}
         self.sites = 0
+        # the rows of BootstrapMethods, of each its handle's index and its arguments' indexes as bytes
+        self.rows = None
+        self.resolved = {}
 
-    def name(self, index):
-        """The name, not empty, at `index` of the pool."""
-        text = _utf8(self.pool, index)
-        _need(text)
+    def utf8(self, reader):
+        """The next index's place and the text of the Utf8 that it names."""
+        place = reader.at
+        return place, _entry(self.pool, reader.u2(), (_UTF8_TAG,), place)
+
+    def name(self, reader):
+        """The name, not empty, that the next index names."""
+        place, text = self.utf8(reader)
+        return self.named(text, place)
+
+    def descriptor(self, reader, is_right):
+        """The descriptor that the next index names."""
+        place, text = self.utf8(reader)
+        return self.described(text, is_right, place)
+
+    def class_name(self, reader):
+        """The name, not empty, of the Class that the next index names."""
+        place = reader.at
+        return self.type_name(reader.u2(), place)
+
+    def named(self, text, offset):
+        """A name, which isn't empty; a fault stands at the offset."""
+        if not text:
+            raise ClassFault("EmptyName", offset)
         return text
 
-    def descriptor(self, index, is_right=is_method_descriptor):
-        """The descriptor at `index` of the pool, which is right."""
-        text = _utf8(self.pool, index)
+    def described(self, text, is_right, offset):
+        """A descriptor, which is right; a fault stands at the offset."""
         if (text, is_right) not in self.descriptors:
-            _need(is_right(text))
+            if not is_right(text):
+                raise ClassFault("Descriptor", offset)
             self.descriptors.add((text, is_right))
         return text
 
-    def member(self, index, tags):
-        """The owner, name and descriptor of the method or field at `index`, which has one of these tags."""
-        place, pair = _entry(self.pool, index, tags)
-        owner = _class_name(self.pool, place)
-        name, descriptor = _entry(self.pool, pair, (12,))
-        return owner, self.name(name), self.descriptor(descriptor, _KINDS[tags[0]])
+    def type_name(self, index, offset):
+        """The name, not empty, of the Class at `index`; a fault stands at the offset."""
+        text = _entry(self.pool, index, (_CLASS_TAG,), offset)[0]
+        return self.named(self.pool[text][1], offset)
 
-    def target(self, start):
-        """The kind, owner, name and descriptor of a site by its opcode and index, and its length.
+    def member(self, index, tags, offset):
+        """The owner, name and descriptor of the member at `index`, which has one of these tags."""
+        place, pair = _entry(self.pool, index, tags, offset)
+        owner = self.type_name(place, offset)
+        name, descriptor = _entry(self.pool, pair, (_PAIR_TAG,), offset)
+        name = self.named(self.pool[name][1], offset)
+        return owner, name, self.described(self.pool[descriptor][1], _KINDS[tags[0]], offset)
+
+    def count(self, number, offset):
+        """Counts sites of the instruction at the offset."""
+        self.sites += number
+        if self.sites > CLASS_SITES:
+            raise ClassFault("ManySites", offset)
+
+    def target(self, start, offset):
+        """The kind, owner, name and descriptor of a site by its opcode and index.
 
         A `new` names an owner alone; its name and descriptor are empty.
         """
         if start not in self.targets:
-            _need(len(start) == 3)
-            kind, length, tags = _SITES[start[0]]
+            kind, _, tags = _SITES[start[0]]
             index = int.from_bytes(start[1:], "big")
-            if tags == (7,):
-                named = _class_name(self.pool, index), b"", b""
+            if tags == (_CLASS_TAG,):
+                named = self.type_name(index, offset), b"", b""
             else:
-                named = self.member(index, tags)
-            self.targets[start] = (kind, *named), length
+                named = self.member(index, tags, offset)
+            self.targets[start] = (kind, *named)
         return self.targets[start]
 
-    def code(self, code):
-        """The sites of the instructions of a method: each its place and its target."""
+    def bootstrap(self, start, offset):
+        """The bootstrap index of an `invokedynamic` by its opcode and index."""
+        if start not in self.targets:
+            index = int.from_bytes(start[1:], "big")
+            self.targets[start] = _entry(self.pool, index, (_DYNAMIC_TAG,), offset)[0]
+        return self.targets[start]
+
+    def code(self, code, start):
+        """The sites of a code that begins at `start` of the file, and its `invokedynamic`s.
+
+        A site is its place and its target. An `invokedynamic` is a number of its place and its bootstrap index.
+        """
         sites = []
+        dynamics = array.array("I")
         at = 0
         while at < len(code):
             opcode = code[at]
             if opcode in _SITES:
-                target, length = self.target(code[at:at + 3])
-                sites.append((at, target))
-                at += length
-                _need(at <= len(code))
+                end = at + _SITES[opcode][1]
+                _inside(code, end, start, at)
+                sites.append((at, self.target(code[at:at + 3], start + at)))
+                self.count(1, start + at)
+            elif opcode == _INVOKEDYNAMIC:
+                end = at + 5
+                _inside(code, end, start, at)
+                dynamics.append(at << 16 | self.bootstrap(code[at:at + 3], start + at))
             elif opcode in (_TABLE, _LOOKUP):
-                at = _after_switch(code, at)
+                end = _after_switch(code, at, start)
             else:
                 end = _PASSED.match(code, at).end()
-                _need(end > at)
-                at = end
-        self.sites += len(sites)
-        _need(self.sites <= CLASS_SITES)
-        return sites
+                if end == at:
+                    _refuse_instruction(code, at, start)
+            at = end
+        return sites, dynamics
 
-    def code_attribute(self, content):
-        """The sites of the content of a Code attribute."""
-        reader = _Reader(content)
-        reader.take(4)
+    def code_attribute(self, reader):
+        """The code's place, sites and `invokedynamic`s in the content of a Code attribute."""
+        reader.skip(2)
+        reader.skip(2)
+        place = reader.at
         length = reader.u4()
-        _need(1 <= length <= CODE)
-        sites = self.code(reader.take(length))
-        reader.take(8 * reader.u2())
+        if not 1 <= length <= CODE:
+            raise ClassFault("CodeLength", place)
+        start = reader.at
+        sites, dynamics = self.code(reader.take(length), start)
+        for _ in range(reader.u2()):
+            reader.skip(8)
         self.attributes(reader)
-        _need(reader.at == len(content))
-        return sites
+        reader.finish()
+        return start, sites, dynamics
 
     def attributes(self, reader):
         """Passes over a count of attributes."""
         for _ in range(reader.u2()):
-            _need(_utf8(self.pool, reader.u2()) != _FORBIDDEN)
-            reader.take(reader.u4())
+            self.utf8(reader)
+            reader.skip_content()
 
     def fields(self, reader):
         """The names and descriptors of the fields."""
         found = []
         for _ in range(reader.u2()):
             reader.u2()
-            name = self.name(reader.u2())
-            found.append((name, self.descriptor(reader.u2(), is_field_descriptor)))
+            name = self.name(reader)
+            found.append((name, self.descriptor(reader, is_field_descriptor)))
             self.attributes(reader)
         return found
 
     def methods(self, reader):
-        """The names, descriptors and sites of the methods."""
+        """The names and descriptors of the methods, and what their codes hold."""
         found = []
         seen = set()
         for _ in range(reader.u2()):
+            row = reader.at
             reader.u2()
-            name = self.name(reader.u2())
-            pair = name, self.descriptor(reader.u2())
-            _need(pair not in seen)
+            name = self.name(reader)
+            pair = name, self.descriptor(reader, is_method_descriptor)
+            if pair in seen:
+                raise ClassFault("DoubleMethod", row)
             seen.add(pair)
             found.append((*pair, self.method_attributes(reader)))
         return found
 
     def method_attributes(self, reader):
-        """The sites of a method, where its Code attribute is among its attributes."""
+        """What the code of a method holds, where its Code attribute is among its attributes."""
         found = None
         for _ in range(reader.u2()):
-            name = _utf8(self.pool, reader.u2())
-            _need(name != _FORBIDDEN)
-            content = reader.take(reader.u4())
-            if name == b"Code":
-                _need(found is None)
-                found = self.code_attribute(content)
-        return found or []
+            place, name = self.utf8(reader)
+            if name != b"Code":
+                reader.skip_content()
+                continue
+            if found is not None:
+                raise ClassFault("DoubleCode", place)
+            found = self.code_attribute(reader.content())
+        return found or (0, [], ())
 
+    def class_attributes(self, reader):
+        """Passes over the attributes of the class, but for BootstrapMethods, which is read."""
+        for _ in range(reader.u2()):
+            place, name = self.utf8(reader)
+            if name != _BOOTSTRAP:
+                reader.skip_content()
+                continue
+            if self.rows is not None:
+                raise ClassFault("Bootstrap", place)
+            self.rows = self.bootstrap_rows(reader.content())
 
-def _read_class(data):
-    """As read_class, but raises _NotPlain."""
-    reader = _Reader(data)
-    _need(reader.take(4) == b"\xca\xfe\xba\xbe")
-    reader.u2()
-    _need(45 <= reader.u2() <= 65)
-    pool = _read_pool(reader)
-    module = reader.u2() & _MODULE != 0
-    name = _class_name(pool, reader.u2())
-    super_index = reader.u2()
-    if super_index != 0:
-        _class_name(pool, super_index)
-    for _ in range(reader.u2()):
-        _class_name(pool, reader.u2())
-    body = _Body(pool)
-    fields = body.fields(reader)
-    methods = body.methods(reader)
-    body.attributes(reader)
-    _need(reader.at == len(data))
-    return View(name, module, fields, methods)
+    def bootstrap_rows(self, reader):
+        """The rows of the content of BootstrapMethods; what they name isn't looked at."""
+        rows = []
+        for _ in range(reader.u2()):
+            handle = reader.u2()
+            count = reader.u2()
+            # each argument is an item: the first that passes the end is cut
+            fits = min(count, (reader.end - reader.at) // 2)
+            arguments = reader.take(2 * fits)
+            if fits < count:
+                reader.skip(2)
+            rows.append((handle, arguments))
+        reader.finish()
+        return rows
+
+    def handle(self, index, offset):
+        """The target of the MethodHandle at `index`, in a list, where it calls a method; else an empty list."""
+        kind, named = self.pool[index][1]
+        if kind < _CALLING:
+            return []
+        return [(b"handle%d" % kind, *self.member(named, (10, 11), offset))]
+
+    def row(self, number, offset):
+        """The targets of the handles of a row, which an `invokedynamic` at the offset uses."""
+        if number in self.resolved:
+            found = self.resolved[number]
+            self.count(len(found), offset)
+            return found
+        if self.rows is None or number >= len(self.rows):
+            raise ClassFault("Bootstrap", offset)
+        handle, arguments = self.rows[number]
+        _entry(self.pool, handle, (_HANDLE_TAG,), offset)
+        found = []
+        for index in (handle, *struct.unpack(">%dH" % (len(arguments) // 2), arguments)):
+            if index == 0 or index >= len(self.pool) or self.pool[index] is None:
+                raise ClassFault("BadIndex", offset, index)
+            if self.pool[index][0] == _HANDLE_TAG:
+                more = self.handle(index, offset)
+                self.count(len(more), offset)
+                found += more
+        self.resolved[number] = found
+        return found
+
+    def all_sites(self, start, sites, dynamics):
+        """The sites of a method with those of the handles that its `invokedynamic`s use, by their places."""
+        more = []
+        for packed in dynamics:
+            place = packed >> 16
+            found = self.row(packed & 0xFFFF, start + place)
+            if found:
+                more += [(place, target) for target in found]
+        return sorted(sites + more, key=lambda site: site[0]) if more else sites
 
 
 def read_class(data):
-    """The View of a plain class file, or None; that of a module is marked as such.
+    """The View of a class file; that of a module is marked as such. Raises ClassFault.
 
     A field is its name and descriptor, a method its name, descriptor and sites. A site is its place and its
     target, which is the kind and the owner, name and descriptor of what is named.
     """
+    reader = _Reader(data, 0, len(data))
+    if reader.take(4) != b"\xca\xfe\xba\xbe":
+        raise ClassFault("Magic", 0)
+    reader.u2()
+    if not 45 <= reader.u2() <= 65:
+        raise ClassFault("Version", 6)
+    body = _Body(_read_pool(reader))
+    module = reader.u2() & _MODULE != 0
+    name = body.class_name(reader)
+    if data[reader.at:reader.at + 2] == b"\0\0":
+        reader.skip(2)
+    else:
+        body.class_name(reader)
+    for _ in range(reader.u2()):
+        body.class_name(reader)
+    fields = body.fields(reader)
+    methods = body.methods(reader)
+    body.class_attributes(reader)
+    methods = [(name, descriptor, body.all_sites(*code)) for name, descriptor, code in methods]
+    reader.finish()
+    return View(name, module, fields, methods)
+
+
+def class_fault(data):
+    """The first fault of a class file, or None."""
     try:
-        return _read_class(data)
-    except _NotPlain:
-        return None
+        read_class(data)
+    except ClassFault as fault:
+        return fault
+    return None
 
 
 def is_path(path):
@@ -379,30 +582,52 @@ def is_path(path):
     return all(part not in (b"", b".", b"..") for part in path.split(b"/"))
 
 
-def unpack(bundle):
-    """The (path, body) pairs of a bundle, or None."""
-    if len(bundle) > LIMIT or bundle[:6] != b"FCGB\x00\x01" or len(bundle) < 10:
-        return None
-    count = struct.unpack_from(">I", bundle, 6)[0]
+def _item(bundle, at, size, entry):
+    """The place after an item of a bundle, in the entry of this number."""
+    if at + size > len(bundle):
+        raise bundle_fault("Cut", at, entry)
+    return at + size
+
+
+def _count_of_entries(bundle):
+    """The number of entries that a bundle says it has."""
+    _item(bundle, 0, 4, 0)
+    if bundle[:4] == JAR:
+        raise Refused(JAR_FAULT)
+    if bundle[:4] != b"FCGB":
+        raise bundle_fault("Magic", 0, 0)
+    _item(bundle, 4, 2, 0)
+    if bundle[4:6] != b"\0\1":
+        raise bundle_fault("Version", 4, 0)
+    _item(bundle, 6, 4, 0)
+    return int.from_bytes(bundle[6:10], "big")
+
+
+def entries_of(bundle):
+    """The path, the body and the body's place of each entry in order; raises Refused at the first fault."""
+    count = _count_of_entries(bundle)
     at = 10
-    entries = []
     seen = set()
-    for _ in range(count):
-        if at + 2 > len(bundle):
-            return None
-        size = int.from_bytes(bundle[at:at + 2], "big")
-        path = bundle[at + 2:at + 2 + size]
-        at += 2 + size
-        if at + 4 > len(bundle) or not is_path(path) or path in seen:
-            return None
+    for entry in range(count):
+        start = _item(bundle, at, 2, entry)
+        size = int.from_bytes(bundle[at:start], "big")
+        if not 1 <= size <= 1024:
+            raise bundle_fault("Path", at, entry)
+        end = _item(bundle, start, size, entry)
+        path = bundle[start:end]
+        if not is_path(path) or path in seen:
+            raise bundle_fault("Path", start, entry)
         seen.add(path)
-        size = int.from_bytes(bundle[at:at + 4], "big")
-        at += 4
-        if at + size > len(bundle):
-            return None
-        entries.append((path, bundle[at:at + size]))
-        at += size
-    return entries if at == len(bundle) else None
+        start = _item(bundle, end, 4, entry)
+        at = _item(bundle, start, int.from_bytes(bundle[end:start], "big"), entry)
+        yield path, bundle[start:at], start
+    if at < len(bundle):
+        raise bundle_fault("Trailing", at, count)
+
+
+def unpack(bundle):
+    """The (path, body) pairs of a bundle without a fault of its own; the class files aren't read."""
+    return [(path, body) for path, body, _ in entries_of(bundle)]
 
 
 def pack(entries):
@@ -420,26 +645,28 @@ def count_sites(view):
 
 
 def views(bundle):
-    """The View of each entry of a plain bundle that isn't a module, or None where the bytes are none."""
-    entries = unpack(bundle)
-    if entries is None:
-        return None
+    """The View of each entry of a bundle that is shown; raises Refused at the first fault.
+
+    A module isn't shown, and neither is a class file below META-INF/versions/, though its sites are counted.
+    """
     found = []
     known = {}
     sites = 0
-    for path, body in entries:
-        if not path.endswith(b".class") or path.startswith(b"META-INF/versions/"):
-            return None
-        if body not in known:
-            known[body] = read_class(body)
-        view = known[body]
-        if view is None:
-            return None
-        if not view.module:
-            sites += count_sites(view)
-            found.append(view)
+    for entry, (path, body, place) in enumerate(entries_of(bundle)):
+        if not path.endswith(b".class"):
+            continue
+        try:
+            view = known[body] if body in known else read_class(body)
+        except ClassFault as fault:
+            raise Refused(fault.line(entry)) from None
+        known[body] = view
+        if view.module:
+            continue
+        sites += count_sites(view)
         if sites > BUNDLE_SITES:
-            return None
+            raise bundle_fault("ManySites", place, entry)
+        if not path.startswith(VERSIONS):
+            found.append(view)
     return found
 
 
@@ -471,7 +698,7 @@ class _Texts:
 
 
 def list_lines(found):
-    """The lines that `fcg list` prints for the views of a plain bundle, one after the other."""
+    """The lines that `fcg list` prints for the views of a bundle, one after the other."""
     texts = _Texts()
     count = 0
     for view in found:
@@ -483,7 +710,7 @@ def list_lines(found):
 
 
 def site_lines(found):
-    """The lines that `fcg sites` prints for the views of a plain bundle, one after the other."""
+    """The lines that `fcg sites` prints for the views of a bundle, one after the other."""
     texts = _Texts()
     count = 0
     for view in found:
@@ -499,15 +726,19 @@ def site_lines(found):
 LINES = {"list": list_lines, "sites": site_lines}
 
 
+def shown(data):
+    """The views of an input that is shown; raises Refused."""
+    if len(data) > LIMIT:
+        raise Refused(BODY_TOO_LONG)
+    return views(data)
+
+
 def answer(data, command="list"):
     """The exit status, standard output and standard error that a command of fcg owes to an input."""
-    if len(data) > LIMIT:
-        return 3, b"", BODY_TOO_LONG
-    if data[:4] == JAR:
-        return 3, b"", JAR_FAULT
-    found = views(data)
-    if found is None:
-        return 3, b"", NOT_BUILT
+    try:
+        found = shown(data)
+    except Refused as refused:
+        return 3, b"", refused.line
     return 0, b"".join(LINES[command](found)), b""
 
 

@@ -2,10 +2,11 @@
 """Reads bundles of real class files and compares the texts with two other readers.
 
 The class files come from every javac on the machine, for sources written here, from the modules of every
-JDK on the machine, and from the jars below some folders; the plain ones among them are picked by plain.py.
+JDK on the machine, and from the jars below some folders; those of newer versions must be refused by their version.
 The texts of ./fcg list and ./fcg sites are compared byte by byte with those of plain.py; their types,
 fields, methods and sites with those that javap prints: of each class file of the oldest JDK, and of a share of
-the others. Then ./fcg is timed beside cat and javap.
+the others. The sites of method handles are compared with the rows of BootstrapMethods that javap -v prints. Then
+./fcg is timed beside cat and javap.
 """
 
 import argparse
@@ -99,6 +100,24 @@ public interface Gr\u00f6\u00dfe { Gr\u00f6\u00dfe \u00fcber(\u540d\u524d n, \u5
     "p\u00e4ck/\u65e5\u672c/\u00c9chec.java": "package p\u00e4ck.\u65e5\u672c; public class \u00c9chec extends Exception { }",
     "rest/Constant.java": """package rest;
 public interface Constant { int K = 70000; default int d() { return K; } static void s() { } }""",
+    "linked/Handles.java": """package linked;
+import java.util.*;
+import java.util.function.*;
+public class Handles<T> extends ArrayList<T> implements Shown {
+    int field; static long count;
+    Supplier<List<T>> make() { return Handles::new; }
+    Function<Integer, int[]> array() { return int[]::new; }
+    Supplier<String> shown() { return super::toString; }
+    Function<String, Integer> length() { return String::length; }
+    BinaryOperator<Integer> greatest() { return Math::max; }
+    Function<CharSequence, Integer> face() { return CharSequence::length; }
+    Supplier<String> named() { return Shown.super::name; }
+    Runnable nested(int a, long b, T c) { return () -> { Runnable r = () -> System.out.println(a + b + field + c.toString()); r.run(); }; }
+    Comparator<T> compared() { return (Comparator<T> & java.io.Serializable) (a, b) -> a.hashCode() - b.hashCode(); }
+    String joined(int a, long b, String c, Object d) { return a + "x" + b + c + "\\n\\u0001 REF_invokeStatic" + d + count + 'c' + 1.5; }
+    public static void main(String[] all) { for (String one : all) { Runnable r = () -> { }; r.run(); new Handles<String>().forEach(x -> r.run()); } }
+}
+interface Shown { default String name() { return "n" + hashCode(); } static Runnable of() { return Shown::of; } }""",
     "rest/Lambda.java": "package rest; class Lambda { Runnable r() { return () -> { }; } }",
     "members/Fields.java": """package members;
 import java.util.*;
@@ -164,6 +183,12 @@ class Wide {
     "Unnamed.java": "public interface Unnamed { Unnamed unnamed(Unnamed[] u); }",
 }
 NEWER = {
+    16: {"newer/Point.java": """package newer;
+public record Point<T>(int x, long y, String name, T[] more) { public Point { java.util.Objects.requireNonNull(name); }
+    record Inner(double d) { } static Object of() { return new Inner(2).toString() + new Point<Object>(1, 2, "", null).hashCode(); } }"""},
+    21: {"newer/Chosen.java": """package newer;
+enum Chosen { A, B; static int of(Object o) { return switch (o) { case String s when s.length() > 3 -> 1; case Integer i -> i;
+    case Chosen c when c == A -> 2; case int[] is -> is.length; default -> 3; }; } }"""},
     17: {"newer/Sealed.java": """package newer;
 public sealed interface Sealed<T> permits Sealed.A, Sealed.B {
     T t(); non-sealed interface A extends Sealed<String> { } sealed interface B extends Sealed<Integer> { }
@@ -289,9 +314,10 @@ def jars(folders):
 
 
 def random_classes(count=1000):
-    """The (path, body) pairs of class files of random code; javap prints all that are plain."""
+    """The (path, body) pairs of class files of random code that are read; javap prints all of them."""
     chance = random.Random(SEED)
-    return [(b"random%04d.class" % number, code_edges.nearly(chance)) for number in range(count)]
+    bodies = [code_edges.nearly(chance) for _ in range(count)]
+    return [(b"random%04d.class" % number, body) for number, body in enumerate(bodies) if plain.class_fault(body) is None]
 
 
 def unescape(text):
@@ -317,7 +343,7 @@ def listed(text):
     return types
 
 
-SITE = re.compile(rb"site ([^. ]+)\.([^( ]+)(\([^ ]+) (\d+) (virtual|special|static|interface|staticfield|new) "
+SITE = re.compile(rb"site ([^. ]+)\.([^( ]+)(\([^ ]+) (\d+) (virtual|special|static|interface|staticfield|new|handle[5-9]) "
                   rb"([^. ]+)(?:\.([^ ]+))?")
 
 
@@ -345,6 +371,12 @@ class NotUnderstood(Exception):
 
 
 PRINTED = re.compile(r" +(\d+): (invoke\w+|new|getstatic|putstatic)( .*)")
+DYNAMIC = re.compile(r" +(\d+): invokedynamic +#\d+, +0 +// InvokeDynamic #(\d+):.*")
+# a row of BootstrapMethods and one of its arguments; some are empty texts
+ROW = re.compile(r"  (\d+): #\d+ (.*)")
+ARGUMENT = re.compile(r"      #\d+ ?(.*)")
+REFERENCES = {"REF_invokeVirtual": "handle5", "REF_invokeStatic": "handle6", "REF_invokeSpecial": "handle7",
+              "REF_newInvokeSpecial": "handle8", "REF_invokeInterface": "handle9"}
 NAMED = re.compile(r" +#\d+(?:, +\d+)? +// (Method|InterfaceMethod|Field|class) (.*)")
 QUOTED = r'"(?:[^"\\]|\\.)*"|[^".:]+'
 TARGET = re.compile(r"(?:(%s)\.)?(%s):(.*)" % (QUOTED, QUOTED))
@@ -365,11 +397,15 @@ def unquoted(text):
 def printed_site(line):
     """The place, kind, owner and member in a line of javap, or None where it is no site.
 
-    The owner is None where javap leaves it out, since it is the class itself.
+    The owner is None where javap leaves it out, since it is the class itself. Of an `invokedynamic` it is the
+    number of its bootstrap method.
     """
     found = PRINTED.fullmatch(line)
     if found is None:
         return None
+    dynamic = DYNAMIC.fullmatch(line)
+    if dynamic is not None:
+        return dynamic.group(1), None, int(dynamic.group(2)), ""
     place, word, rest = found.groups()
     kind, tags = KINDS.get(word, (None, ()))
     named = NAMED.fullmatch(rest)
@@ -386,14 +422,45 @@ def printed_site(line):
     return place, kind, unquoted(owner), unquoted(name) + descriptor
 
 
-REFUSED = re.compile(r" +\d+: invokedynamic +#.*")
+def handle_site(text):
+    """The kind, owner and member of a method handle as javap prints it, or None where it calls no method."""
+    word, _, rest = text.partition(" ")
+    if word not in REFERENCES:
+        return None
+    target = TARGET.fullmatch(rest)
+    if target is None or target.group(3)[0] != "(":
+        raise NotUnderstood("a handle: " + text)
+    owner, name, descriptor = target.groups()
+    return REFERENCES[word], unquoted(owner), unquoted(name) + descriptor
+
+
+def printed_rows(text):
+    """The rows of BootstrapMethods of each class file in a text of javap -v: of each row the handles that call methods."""
+    files = []
+    inside = False
+    for line in text.split("\n"):
+        if line.startswith("Classfile "):
+            files.append([])
+        if not line.startswith(" "):
+            inside = line == "BootstrapMethods:"
+            continue
+        if not inside or line == "    Method arguments:":
+            continue
+        row, argument = ROW.fullmatch(line), ARGUMENT.fullmatch(line)
+        if row is not None and int(row.group(1)) == len(files[-1]):
+            files[-1].append([])
+        elif argument is None or not files[-1]:
+            raise NotUnderstood("a row of bootstrap methods: " + line)
+        site = handle_site((row or argument).group(row.lastindex if row else 1))
+        if site is not None:
+            files[-1][-1].append(site)
+    return files
 
 
 def printed(text):
-    """The types of a text of javap -c -s -p: each its first line, its fields, its methods, and why it isn't plain.
+    """The types of a text of javap -c -s -p: each its first line, its fields and its methods.
 
-    A field is its line and its descriptor, a method these and its sites. Why it isn't plain are lines of
-    instructions. Of a module the first line alone is told.
+    A field is its line and its descriptor, a method these and its sites. Of a module the first line alone is told.
     """
     types = []
     member = None
@@ -403,7 +470,7 @@ def printed(text):
         if not line.startswith(" "):
             if not line.endswith("{"):
                 raise NotUnderstood("a line: " + line)
-            types.append((line, [], [], []))
+            types.append((line, [], []))
         elif line.startswith("    descriptor: "):
             if member is None:
                 raise NotUnderstood("a descriptor without a member: " + line)
@@ -415,8 +482,6 @@ def printed(text):
             member = None
         elif line[2:3] != " ":
             member = line
-        elif REFUSED.fullmatch(line):
-            types[-1][3].append(line)
         else:
             site = printed_site(line)
             if site is not None:
@@ -430,23 +495,36 @@ def javap_words(home, words):
             "-J-Dsun.stdout.encoding=UTF-8"] + words
 
 
-def javap_files(home, files):
-    """The types that javap prints of class files; for those that it does not print why, as text."""
-    done = subprocess.run(javap_words(home, ["-c", "-s", "-p"]) + files, env=environment(),
+def javap_files(home, files, words=("-c", "-s", "-p"), read=printed):
+    """What is read of the text that javap prints of each class file; for those that it does not print why, as text."""
+    done = subprocess.run(javap_words(home, list(words)) + files, env=environment(),
                           stdout=subprocess.PIPE, stderr=subprocess.PIPE, check=False)
     text = done.stdout.decode("utf-8", "replace")
     why = (done.stderr.decode("utf-8", "replace") or text)[:200].replace("\n", " ")
     if done.returncode == 0 and not done.stderr:
         try:
-            types = printed(text)
-            if len(types) == len(files):
-                return types
+            found = read(text)
+            if len(found) == len(files):
+                return found
         except NotUnderstood as error:
             why = str(error)
     if len(files) == 1:
         return [why]
     half = len(files) // 2
-    return javap_files(home, files[:half]) + javap_files(home, files[half:])
+    return javap_files(home, files[:half], words, read) + javap_files(home, files[half:], words, read)
+
+
+def has_dynamic(kind):
+    """Whether a type that javap prints has an `invokedynamic`."""
+    return any(site[1] is None for _, _, sites in kind[2] for site in sites)
+
+
+def javap_types(home, files):
+    """As javap_files, each with its rows of BootstrapMethods where it has an `invokedynamic`; both may be why not."""
+    types = javap_files(home, files)
+    linked = [path for path, kind in zip(files, types) if not isinstance(kind, str) and has_dynamic(kind)]
+    rows = iter(javap_files(home, linked, ("-v", "-p"), printed_rows) if linked else [])
+    return [(kind, next(rows) if not isinstance(kind, str) and has_dynamic(kind) else []) for kind in types]
 
 
 def batches(folder, bodies, size=400):
@@ -498,12 +576,10 @@ def compare_fields(label, name, fields, others):
             measure.fail("%s: %s: plain.py reads %s%s, javap %s with %s" % (label, name, own, descriptor, line, other))
 
 
-def compare_type(label, ours, theirs):
-    """Compares a type and its methods with javap's; gives the sites of javap."""
+def compare_type(label, ours, theirs, linked):
+    """Compares a type and its methods with javap's; gives the sites of javap, those of the rows among them."""
     name, members = ours
-    line, _, others, refused = theirs
-    if refused:
-        measure.fail("%s: %s isn't plain: %s" % (label, name, refused[0]))
+    line, _, others = theirs
     if not is_heading(line, name):
         measure.fail("%s: fcg lists the type %s, javap %s" % (label, name, line))
     if len(members) != len(others):
@@ -513,7 +589,10 @@ def compare_type(label, ours, theirs):
         if descriptor != other or not is_member(shown, name, method):
             measure.fail("%s: %s: fcg lists %s%s, javap %s with %s" % (label, name, method, descriptor, shown, other))
         for place, kind, owner, member in sites:
-            rows.append((name, method, descriptor, place, kind, owner or name, member))
+            some = [(kind, owner, member)]
+            if kind is None:
+                some = linked[owner] if owner < len(linked) else measure.fail("%s: %s: javap has no row %d" % (label, name, owner))
+            rows += [(name, method, descriptor, place, one, whose or name, what) for one, whose, what in some]
     return rows
 
 
@@ -540,16 +619,18 @@ def told(views, list_text, sites_text):
         measure.fail("fcg prints types or sites of a module")
 
 
-def compare_one(label, view, ours, theirs, counts):
+def compare_one(label, view, ours, theirs, linked, counts):
     """Compares what ./fcg told of one class file with what javap prints of it."""
     if view.module:
         if MODULE.fullmatch(theirs[0]) is None:
             measure.fail("%s: fcg passes over a module, javap %s" % (label, theirs[0]))
         counts["modules"] += 1
         return
-    compare_sites(label, ours[1], compare_type(label, ours[0], theirs))
+    sites = compare_type(label, ours[0], theirs, linked)
+    compare_sites(label, ours[1], sites)
     compare_fields(label, ours[0][0], view.fields, theirs[1])
-    counts.update(types=1, fields=len(view.fields), methods=len(view.methods), sites=len(ours[1]))
+    counts.update(types=1, fields=len(view.fields), methods=len(view.methods), sites=len(ours[1]),
+                  handles=sum(site[4].startswith("handle") for site in sites))
 
 
 MODULE = re.compile(r"(?:open )?module \S+ \{")
@@ -563,47 +644,33 @@ def compare_javap(label, home, folder, bodies, views, texts, step):
     causes = []
     rows = zip(views[::step], ours)
     for files in batches(folder, some):
-        for theirs in javap_files(home, files):
+        for theirs, linked in javap_types(home, files):
             view, own = next(rows)
-            if isinstance(theirs, str):
-                causes.append(theirs)
+            if isinstance(theirs, str) or isinstance(linked, str):
+                causes.append(theirs if isinstance(theirs, str) else linked)
             else:
-                compare_one(label, view, own, theirs, counts)
+                compare_one(label, view, own, theirs, linked, counts)
     for cause in sorted(set(causes))[:5]:
         print("  not printed by javap: " + cause)
     if len(causes) * 100 > len(some):
         measure.fail("%s: javap does not print %d of %d class files" % (label, len(causes), len(some)))
-    print("  equal to javap -c -s -p of %s: %s; class files that it doesn't print: %d of %d"
+    print("  equal to javap -c -s -p, and -v, of %s: %s; class files that it doesn't print: %d of %d"
           % (os.path.basename(home), " ".join("%s %d" % count for count in sorted(counts.items())), len(causes), len(some)),
           flush=True)
 
 
-def compare_causes(label, home, folder, entries):
-    """Looks whether javap shows why each class file isn't plain: an instruction, or there are bootstrap methods."""
-    bodies = [body for _, body in entries if major(body) <= GREATEST]
-    types = [kind for files in batches(folder, bodies) for kind in javap_files(home, files)]
-    shown = 0
-    for body, kind in zip(bodies, types):
-        if not isinstance(kind, str) and not kind[3] and b"BootstrapMethods" not in body:
-            measure.fail("%s: it isn't seen why the class file of %s isn't plain" % (label, kind[0]))
-        shown += not isinstance(kind, str)
-    print("  of those that aren't plain, javap shows why %d aren't; %d it doesn't print or are newer"
-          % (shown, len(entries) - shown), flush=True)
-
-
-def compare_refused(label, entries, most, count):
-    """Compares ./fcg and plain.py on bundles of one class file each that is not plain."""
-    step = max(1, len(entries) // most) if entries else 1
-    picked = entries[::step][:most]
-    for path, body in picked:
+def compare_refused(label, others, options):
+    """Compares ./fcg with plain.py on bundles of one class file each that is refused, and of all with the last one."""
+    for path, body in others.some[:options.refused]:
         bundle = plain.pack([(path, body)])
         want = plain.answer(bundle)
-        for words in measure.COMMANDS.values():
+        for words in [] if options.alone else measure.COMMANDS.values():
             got = measure.run_bytes(bundle, words)
-            if got != want or want[0] != 3:
+            if got != want:
                 measure.fail("%s: %r alone: fcg %r, plain.py %r" % (label, path, got, want))
-    print("  class files that are not plain: %d, of which %d alone in a bundle: refused by both"
-          % (count, len(picked)), flush=True)
+    print("  class files that are refused: %s; of these %d alone in a bundle"
+          % (" ".join("%s %d" % count for count in sorted(others.counts.items())) or "none",
+             len(others.some[:options.refused])), flush=True)
 
 
 def time_beside_cat(path):
@@ -628,30 +695,36 @@ def time_javap(home, folder, bodies):
 
 
 class Others:
-    """The class files of a group that aren't plain: every tenth of them, and how many they are."""
+    """The class files of a group that are refused: some of them, and how many by rule."""
 
     def __init__(self):
         self.some = []
-        self.count = 0
+        self.counts = collections.Counter()
 
-    def add(self, path, body):
-        """Counts one, and keeps it where it is a tenth one."""
-        if self.count % 10 == 0:
+    def add(self, label, path, body, fault):
+        """Counts one, and keeps every tenth; one that isn't refused by its version is kept and printed."""
+        is_newer = major(body) > GREATEST
+        if is_newer != ((fault.rule, fault.offset, fault.index) == ("Version", 6, 0)) and 45 <= major(body):
+            measure.fail("%s: %r of the version %d: %s" % (label, path, major(body), fault))
+        if not is_newer:
+            print("  refused: %r of the version %d: %s" % (path, major(body), fault), flush=True)
+        if not is_newer or self.counts[fault.rule] % 10 == 0:
             self.some.append((path, body))
-        self.count += 1
+        self.counts[fault.rule] += 1
 
 
-def pieces(entries, size, others):
-    """The plain ones of the entries in order, each its path, body and view; those that aren't plain go to `others`.
+def pieces(label, entries, size, others):
+    """The entries that are read in order, each its path, body and view; those that are refused go to `others`.
 
     They are parted so that no bundle has more than `size` bytes but by one entry.
     """
     part = []
     total = 0
     for path, body in entries:
-        view = plain.read_class(body)
-        if view is None:
-            others.add(path, body)
+        try:
+            view = plain.read_class(body)
+        except plain.ClassFault as fault:
+            others.add(label, path, body, fault)
             continue
         if part and total + len(path) + len(body) > size:
             yield part
@@ -664,7 +737,7 @@ def pieces(entries, size, others):
 
 
 def compare_piece(label, home, folder, part, options, step):
-    """Compares and times one bundle of the plain class files of a group."""
+    """Compares and times one bundle of the class files of a group that are read."""
     bodies = [body for _, body, _ in part]
     views = [view for _, _, view in part]
     bundle = plain.pack([(path, body) for path, body, _ in part])
@@ -677,21 +750,19 @@ def compare_piece(label, home, folder, part, options, step):
         time_javap(home, folder, bodies[::step][:TIMED])
 
 
-def group(label, home, folder, entries, options, causes=True, step=1):
-    """Compares and times one group of class files with javap; gives the paths and bodies of its plain ones.
+def group(label, home, folder, entries, options, step=1):
+    """Compares and times one group of class files with javap; gives the paths and bodies of those that are read.
 
-    With `causes` javap must show why the others are not plain. Each `step`-th class file is compared with javap.
+    Each `step`-th class file is compared with javap.
     """
     good = []
     others = Others()
-    for part in pieces(entries, options.size, others):
+    for part in pieces(label, entries, options.size, others):
         compare_piece(label, home, folder, part, options, step)
         good += [(path, body) for path, body, _ in part]
-    print("%s: %d class files, of which %d are plain" % (label, len(good) + others.count, len(good)), flush=True)
-    if causes:
-        compare_causes(label, home, folder, others.some)
-    if not options.alone:
-        compare_refused(label, others.some, options.refused, others.count)
+    print("%s: %d class files, of which %d are read"
+          % (label, len(good) + sum(others.counts.values()), len(good)), flush=True)
+    compare_refused(label, others, options)
     return good
 
 
@@ -718,7 +789,7 @@ def words():
     """The options of the script."""
     parser = argparse.ArgumentParser(description=__doc__, formatter_class=argparse.RawDescriptionHelpFormatter)
     parser.add_argument("--refused", type=int, default=100,
-                        help="how many class files of a group that are not plain are tried alone (100)")
+                        help="how many class files of a group that are refused are tried alone (100)")
     parser.add_argument("--size", type=int, default=WEIGHTY, help="bytes of the weighty bundle (60000000)")
     parser.add_argument("--jars", nargs="*", default=JAR_FOLDERS, metavar="FOLDER",
                         help="the folders whose jars are read (%s); those that aren't there are passed over"
@@ -741,13 +812,37 @@ def home_groups(homes, folder):
         yield "newer modules of %s, written as %d" % (name, GREATEST), home, lambda h=home: older(module_classes(h, folder)), True
 
 
+def written_as(body, version):
+    """A class file with another major version."""
+    return body[:6] + version.to_bytes(2, "big") + body[8:]
+
+
 def older(entries):
-    """Those of the entries that are newer than a plain class file may be, with the greatest major version that it may have."""
-    return [(path, body[:6] + GREATEST.to_bytes(2, "big") + body[8:]) for path, body in entries if major(body) > GREATEST]
+    """Those of the entries that are newer than a class file may be, with the greatest major version that it may have."""
+    return [(path, written_as(body, GREATEST)) for path, body in entries if major(body) > GREATEST]
+
+
+def base(home, folder):
+    """The class files of the module java.base, none newer than a class file may be."""
+    entries = [entry for entry in module_classes(home, folder) if entry[0].startswith(b"java.base/")]
+    return [(path, written_as(body, min(major(body), GREATEST))) for path, body in entries]
+
+
+def time_base(home, folder, options):
+    """Times the commands over java.base beside cat, plain.py and javap."""
+    entries = base(home, folder)
+    print("java.base of %s: %d class files" % (os.path.basename(home), len(entries)), flush=True)
+    path = measure.write(folder, "base", plain.pack(entries))
+    if not options.alone:
+        time_beside_cat(path)
+    begin = time.perf_counter()
+    plain.answer(plain.pack(entries), "sites")
+    print("  plain.py sites: %.2f s (one run, without its start)" % (time.perf_counter() - begin))
+    time_javap(home, folder, [body for _, body in entries])
 
 
 def all_groups(homes, folder, options):
-    """Compares every group that is asked for; gives the plain class files of each javac."""
+    """Compares every group that is asked for; gives the class files of each javac that are read."""
     made = []
     rest = [("random code", homes[0], random_classes, False),
             ("jars", homes[-1], lambda: jar_classes(options.jars), True)]
@@ -755,7 +850,7 @@ def all_groups(homes, folder, options):
         if options.groups and not any(word in label for word in options.groups):
             continue
         step = options.share if share else 1
-        good = group(label, home, folder, build(), options, label != "random code", step)
+        good = group(label, home, folder, build(), options, step)
         if label.startswith("javac"):
             made += [(home.encode().replace(b"/", b"_") + b"/" + path, body) for path, body in good]
     return made
@@ -787,6 +882,9 @@ def main():
             measure.ready()
             print("start of a process, a bundle without entries:")
             time_beside_cat(measure.write(folder, "empty", plain.pack([])))
+        for home in homes:
+            if options.groups is None or any(word in "java.base of " + os.path.basename(home) for word in options.groups):
+                time_base(home, folder, options)
         made = all_groups(homes, folder, options)
         if made:
             weighty(folder, made, options)

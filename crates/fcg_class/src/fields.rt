@@ -78,8 +78,8 @@ fn read_field_rows(
 /// The fields whose count stands at a place, in the order of the file, and the place after them.
 ///
 /// The first fault in reading order is one of these: a row passes the file's end, or an index of it names no Utf8; a
-/// name is empty, or a descriptor is no field descriptor, at the place of its index; an attribute isn't read yet, or
-/// passes the file's end.
+/// name is empty, or a descriptor is no field descriptor, at the place of its index; the name of an attribute is no
+/// Utf8, or its content passes the file's end.
 ///
 /// It makes one pass over the rows, and passes over the attributes by their lengths. Names are copied, and descriptors
 /// read, once for each Utf8 of the pool. It takes memory for the fields.

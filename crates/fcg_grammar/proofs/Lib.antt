@@ -5,3 +5,7 @@ pub mod RowLaws
 pub mod StateRowLaws
 pub mod FaultLaws
 pub mod Limits
+pub mod Among
+pub mod TableLaws
+pub mod ValueRowLaws
+pub mod NthRow

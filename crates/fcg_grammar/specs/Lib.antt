@@ -3,3 +3,4 @@ pub mod Rows
 pub mod Number
 pub mod Spell
 pub mod First
+pub mod Table

@@ -6,3 +6,7 @@ pub mod DescLaws
 pub mod Distinct
 pub mod GroupLemmas
 pub mod InstructionPlaces
+pub mod PartLaws
+pub mod CoordinateLaws
+pub mod EscapeLaws
+pub mod UriLaws

@@ -10,3 +10,7 @@ pub mod Reads
 pub mod Breaks
 pub mod Valid
 pub mod DescBounds
+pub mod Coordinate
+pub mod Set
+pub mod Uri
+pub mod Analysis

@@ -27,6 +27,27 @@ const DESC: AsciiSet = ascii_set!(CLASS.remove(b'(').remove(b')').remove(b';').r
 
 impl Place {
     ghost use Rattle.fcg_views.specs.Place.{set_of};
+    ghost use Rattle.fcg_views.specs.Escape.{others, may_stand};
+    ghost use Rattle.std.specs.Prelude.{◌==◌};
+    ghost use Rattle.std.specs.List.{list_any};
+
+    // Whether a byte that is no letter and no digit stands as it is there.
+    fn is_other(self, byte: u8) -> bool
+        ensures { result ≡ list_any (λ c. c == byte) (others self) }
+    {
+        match self {
+            Place::Class => b"_-$/".contains(&byte),
+            Place::Member => b"_-$".contains(&byte),
+            Place::Desc => b"_-$/();[".contains(&byte),
+        }
+    }
+
+    /// Whether a byte stands as it is there.
+    pub fn may_stand(self, byte: u8) -> bool
+        ensures { result ≡ may_stand self byte }
+    {
+        byte.is_ascii_alphanumeric() || self.is_other(byte)
+    }
 
     // The bytes that are escaped there.
     fn set(self) -> AsciiSet

@@ -1,9 +1,13 @@
+use crate::coordinate::{Coordinate, CoordinateFault};
 use crate::descriptor::{DescFault, DescSpan, read_descriptor, read_field_descriptor};
 use crate::escaping::{Place, escape};
 use crate::items::Items;
 use crate::name::Name;
+use crate::set::Set;
+use crate::uri::{MethodUri, UriFault, UriRule};
 use crate::valid::is_valid;
 use crate::view::{Method, View};
+use fcg_grammar::ReadError;
 use std::alloc::{AllocError, Global};
 use std::test::Fail;
 
@@ -183,5 +187,181 @@ fn tells_valid_views(rt: HostRuntime) -> Result<(), Fail> {
     assert!(rt; !is_valid(&alike));
     let views = Items::from(vec![in rt.alloc(); apart, alike]?);
     assert!(rt; views.fits());
+    Ok(())
+}
+
+#[test]
+fn reads_coordinates(rt: HostRuntime) -> Result<(), Fail> {
+    for (front, byte, count, back) in [
+        ("g:a:1", b'v', 0, ""),
+        ("org.slf4j:slf4j-api:2.0.9", b'v', 0, ""),
+        ("A_z-0+9~:.:1.0-SNAPSHOT", b'v', 0, ""),
+        ("g:a:", b'v', 251, ""),
+    ] {
+        let text = repeated(rt.alloc(), front, byte, count, back)?;
+        match Coordinate::parse(rt.alloc(), &text) {
+            Ok(coordinate) => assert_eq!(rt; coordinate.text(), text.as_slice()),
+            Err(_) => assert!(rt; false, "at {front} {count} {back}"),
+        }
+    }
+    Ok(())
+}
+
+// A text that breaks several rules has the first of them as its fault.
+#[test]
+fn tells_where_coordinates_break(rt: HostRuntime) -> Result<(), Fail> {
+    for (front, byte, count, back, fault) in [
+        ("", b'v', 0, "", CoordinateFault::Colons),
+        ("g:a", b'v', 0, "", CoordinateFault::Colons),
+        ("g:a:1:2", b'v', 0, "", CoordinateFault::Colons),
+        (":::", b'v', 0, "", CoordinateFault::Colons),
+        ("::", b'v', 0, "", CoordinateFault::EmptyPart),
+        (":a:1", b'v', 0, "", CoordinateFault::EmptyPart),
+        ("g::1", b'v', 0, "", CoordinateFault::EmptyPart),
+        ("g:a:", b'v', 0, "", CoordinateFault::EmptyPart),
+        ("%::1", b'v', 0, "", CoordinateFault::EmptyPart),
+        (
+            "g:a%zz:1",
+            b'v',
+            0,
+            "",
+            CoordinateFault::BadByte { offset: 3 },
+        ),
+        (
+            "$:a:1 ",
+            b'v',
+            0,
+            "",
+            CoordinateFault::BadByte { offset: 0 },
+        ),
+        (
+            "g:a:1/",
+            b'v',
+            0,
+            "",
+            CoordinateFault::BadByte { offset: 5 },
+        ),
+        ("g:a:", b'v', 250, "\u{e4}", CoordinateFault::TooLong),
+        (
+            "g:a:",
+            b'v',
+            249,
+            "\u{e4}",
+            CoordinateFault::BadByte { offset: 253 },
+        ),
+        ("g:a:", b'v', 252, "", CoordinateFault::TooLong),
+        ("", b':', 256, "", CoordinateFault::TooLong),
+    ] {
+        let text = repeated(rt.alloc(), front, byte, count, back)?;
+        match Coordinate::parse(rt.alloc(), &text) {
+            Ok(_) => assert!(rt; false, "at {front} {count} {back}"),
+            Err(found) => {
+                assert_eq!(rt; found, ReadError::Fault(fault), "at {front} {count} {back}");
+            }
+        }
+    }
+    Ok(())
+}
+
+#[test]
+fn keeps_sets(rt: HostRuntime) -> Result<(), Fail> {
+    let mut releases = Vec::new(rt.alloc());
+    for text in ["g:b:1", "g:a:1", "g:b:1"] {
+        match Coordinate::parse(rt.alloc(), text.as_bytes()) {
+            Ok(coordinate) => releases.push(coordinate)?,
+            Err(_) => assert!(rt; false, "at {text}"),
+        }
+    }
+    let set = Set::from(releases);
+    let copy = set.clone()?;
+    assert!(rt; copy == set);
+    assert_eq!(rt; set.as_slice().len(), 3);
+    assert!(rt; set.as_slice()[0] == set.as_slice()[2]);
+    assert!(rt; set.as_slice()[1] < set.as_slice()[0]);
+    assert_eq!(rt; set.into_vec().len(), 3);
+    Ok(())
+}
+
+// Each is read with these parts, and printed as it was.
+#[test]
+fn reads_and_prints_uris(rt: HostRuntime) -> Result<(), Fail> {
+    for (text, coordinate, class, name, desc) in [
+        ("fasten://mvn!g:a$1/p/A.m()V", "g:a:1", "p/A", "m", "()V"),
+        (
+            "fasten://mvn!g:a$1/p/A.%3Cinit%3E(I[Lp/B;)V",
+            "g:a:1",
+            "p/A",
+            "<init>",
+            "(I[Lp/B;)V",
+        ),
+        (
+            "fasten://mvn!g.h:a_b$1.0-r+2~3/A$1.a-b_$9()J",
+            "g.h:a_b:1.0-r+2~3",
+            "A$1",
+            "a-b_$9",
+            "()J",
+        ),
+        (
+            "fasten://mvn!g:a$1/p/%C3%84%2E.%2F%28%25(Lp/%E2%82%AC;)Lp/%3A;",
+            "g:a:1",
+            "p/\u{c4}.",
+            "/(%",
+            "(Lp/\u{20ac};)Lp/:;",
+        ),
+    ] {
+        match MethodUri::parse(rt.alloc(), text.as_bytes()) {
+            Ok(uri) => {
+                assert_eq!(rt; uri.coordinate.text(), coordinate.as_bytes());
+                assert_eq!(rt; uri.class.as_slice(), class.as_bytes());
+                assert_eq!(rt; uri.name.as_slice(), name.as_bytes());
+                assert_eq!(rt; uri.desc.as_slice(), desc.as_bytes());
+                assert_eq!(rt; uri.print(rt.alloc())?.as_slice(), text.as_bytes());
+            }
+            Err(_) => assert!(rt; false, "at {text}"),
+        }
+    }
+    Ok(())
+}
+
+#[test]
+fn tells_where_uris_break(rt: HostRuntime) -> Result<(), Fail> {
+    for (text, offset, rule) in [
+        ("x", 0, UriRule::Scheme),
+        ("fasten://mvn", 0, UriRule::Scheme),
+        ("Fasten://mvn!g:a$1/p/A.m()V", 0, UriRule::Scheme),
+        ("fasten://mvn!", 13, UriRule::Shape),
+        ("fasten://mvn!g:a$1", 18, UriRule::Shape),
+        ("fasten://mvn!g:a:1/p/A.m()V", 13, UriRule::Coordinate),
+        ("fasten://mvn!g$a$1/p/A.m()V", 13, UriRule::Coordinate),
+        ("fasten://mvn!g$a:1/p/A.m()V", 13, UriRule::Coordinate),
+        ("fasten://mvn!:a$1/", 13, UriRule::Coordinate),
+        ("fasten://mvn!/.", 13, UriRule::Coordinate),
+        ("fasten://mvn!g:a$1/.", 19, UriRule::Shape),
+        ("fasten://mvn!g:a$1/p/A", 22, UriRule::Shape),
+        ("fasten://mvn!g:a$1/p/A.", 23, UriRule::Shape),
+        ("fasten://mvn!g:a$1/%.m", 22, UriRule::Shape),
+        ("fasten://mvn!g:a$1/p/A.()V", 23, UriRule::Shape),
+        ("fasten://mvn!g:a$1/p/A.%6d()V", 23, UriRule::Escape),
+        ("fasten://mvn!g:a$1/p/A.%6D()V", 23, UriRule::Escape),
+        ("fasten://mvn!g:a$1/p/A.a%3c()V", 24, UriRule::Escape),
+        ("fasten://mvn!g:a$1/p/A.a%3()V", 24, UriRule::Escape),
+        ("fasten://mvn!g:a$1/p/A.a/b()V", 24, UriRule::Escape),
+        ("fasten://mvn!g:a$1/p%2FA.m()V", 20, UriRule::Escape),
+        ("fasten://mvn!g:a$1/p/A.m(:)W", 25, UriRule::Escape),
+        ("fasten://mvn!g:a$1/p/A.m()%", 26, UriRule::Escape),
+        ("fasten://mvn!g:a$1/p/A.m()W", 24, UriRule::Descriptor),
+        ("fasten://mvn!g:a$1/p/A.m()Lp/%3B", 29, UriRule::Escape),
+    ] {
+        match MethodUri::parse(rt.alloc(), text.as_bytes()) {
+            Ok(_) => assert!(rt; false, "at {text}"),
+            Err(found) => {
+                assert_eq!(rt;
+                    found,
+                    ReadError::Fault(UriFault { offset, rule }),
+                    "at {text}"
+                );
+            }
+        }
+    }
     Ok(())
 }

@@ -68,7 +68,7 @@ Unfinished = Method × Calls
 abbrev pub method_of : Declared → List Site → Method
 method_of d sites = record { name = d.name; desc = d.desc; flags = d.flags; sites = sites }
 
--- the code stands behind the name and the length of its attribute, a number of its own and three more
+-- the code stands 14 bytes after its attribute: behind the name and length, max stack, max locals and code length
 abbrev pub unfinished : Declared → Option (ℕ × Found) → Unfinished
 unfinished d None = (method_of d [], record { begin = 0; calls = [] })
 unfinished d (Some (at, x)) = (method_of d x.sites, record { begin = at + 14; calls = x.calls })

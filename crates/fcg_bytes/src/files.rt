@@ -1,5 +1,5 @@
 //! Files that are listed and read.
-ghost use Rattle.std.specs.Prelude.{◌≡◌, ◌↔◌, ℕ, List, Option, Contains, IfSome, IsSome};
+ghost use Rattle.std.specs.Prelude.{◌≡◌, ◌≤◌, ◌↔◌, ℕ, List, Option, length, Contains, IfOk, IfSome, IsSome};
 ghost use Rattle.std.specs.List.{IsDistinct};
 ghost use Rattle.fcg_bytes.specs.Files.{File, Answers, Counts, file_at, is_same, list_answer, path_in, paths_below, read_answer, texts};
 ghost use Rattle.fcg_bytes.specs.declared.files.FilesRefusal.TheVariants as refusals;
@@ -59,9 +59,10 @@ pub trait Files {
 
     /// The bytes of the file at a path, such as a folder, a slash, and a path that was listed for the folder. Over files
     /// that are told it is `Absent` exactly where no file has the path, and else `TooLong` exactly where the file has
-    /// more than `limit` bytes; `Failed` is counted.
+    /// more than `limit` bytes; `Failed` is counted. No files give more than `limit` bytes.
     fn read(&mut self, alloc: Global, path: &str, limit: usize) -> Result<Bytes, FilesRefusal>
         ensures answer { IfSome (told self.old) (λ files. Answers (λ bytes. bytes) result (read_answer files path.now limit)) }
+        ensures within { IfOk result (λ bytes. length bytes ≤ limit) }
         ensures cause { Counts (faults self.old) (faults self.new) result }
         ensures told { told self.new ≡ told self.old };
 }

@@ -1,6 +1,6 @@
 //! Files of the host's file system. What it holds and when it fails no contract says: here stands that failures are
 //! counted.
-ghost use Rattle.std.specs.Prelude.{◌≡◌, None};
+ghost use Rattle.std.specs.Prelude.{◌≡◌, ◌≤◌, length, None, IfOk};
 
 use crate::{Files, FilesRefusal, MOST_FILES, ReadAllRefusal, StdSource, read_all};
 use fcg_views::{Bytes, Paths};
@@ -99,7 +99,9 @@ fn read_path<R: rt::Files>(
     alloc: Global,
     path: &str,
     limit: usize,
-) -> Result<Bytes, FilesRefusal> {
+) -> Result<Bytes, FilesRefusal>
+    ensures { IfOk result (λ bytes. length bytes ≤ limit) }
+{
     if !look(rt, path)?.is_file() {
         return Err(FilesRefusal::Absent);
     }

@@ -1,5 +1,5 @@
 //! Files in memory, whose calls fail where a list says so. Their contracts tell all that a call does.
-ghost use Rattle.std.specs.Prelude.{◌≡◌, ◌↔◌, ◌≤◌, map, Some, Contains, IfOk, OnOk, IsErrOf, IsTrue};
+ghost use Rattle.std.specs.Prelude.{◌≡◌, ◌↔◌, ◌≤◌, map, length, Some, Contains, IfOk, OnOk, IsErrOf, IsTrue};
 ghost use Rattle.std.specs.List.{find};
 ghost use Rattle.std.specs.Option.{option_map};
 ghost use Rattle.fcg_bytes.specs.Files.{Answers, Counts, after_call, paths_below, file_of, is_same, list_answer, read_answer, relative, texts};
@@ -98,6 +98,7 @@ impl Files for MemoryFiles {
 
     fn read(&mut self, alloc: Global, path: &str, limit: usize) -> Result<Bytes, FilesRefusal>
         ensures answer { Answers (λ bytes. bytes) result (read_answer self.old.files path.now limit) }
+        ensures within { IfOk result (λ bytes. length bytes ≤ limit) }
         ensures cause { Counts self.old.faults self.new.faults result }
 
         // It fails at the calls that the list names, and at no other.
@@ -138,6 +139,7 @@ fn read_file(
     limit: usize,
 ) -> Result<Bytes, FilesRefusal>
     ensures answer { Answers (λ bytes. bytes) result (read_answer (map file_of files.now) path.now limit) }
+    ensures within { IfOk result (λ bytes. length bytes ≤ limit) }
     ensures no_failure { ¬ (IsErrOf result FilesRefusal.Failed) }
 {
     let Some((_, bytes)) = find_file(files, path) else {

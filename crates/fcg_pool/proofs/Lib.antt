@@ -1,3 +1,4 @@
 pub mod ConstantLemmas
 pub mod TagLemmas
 pub mod PlaceLemmas
+pub mod GroupLemmas

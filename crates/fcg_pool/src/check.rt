@@ -17,12 +17,12 @@ pub fn is_one_of(tags: &[u8], tag: u8) -> bool
 }
 
 // An index names a constant of one of these tags.
-#[tactic(auto, unfolding(fcg_views::specs::Breaks::Pool::want_kept))]
+#[tactic(auto, unfolding(fcg_views::specs::Breaks::Pool::want_kept), using(crate::proofs::TagLemmas::want_tag))]
 fn check_want(pool: &Pool<'_>, index: u16, tags: &[u8]) -> Result<(), PoolRule>
     ensures { result ≡ want_kept pool.now (index, tags.now) }
 {
-    let constant = pool.constant(index)?;
-    if !is_one_of(tags, constant.tag()) {
+    let tag = pool.tag(index)?;
+    if !is_one_of(tags, tag) {
         return Err(PoolRule::WrongKind);
     }
     Ok(())

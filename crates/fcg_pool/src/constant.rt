@@ -4,12 +4,15 @@ ghost use Rattle.fcg_grammar.specs.Reading.{seen};
 ghost use Rattle.fcg_grammar.specs.Number.{u2, part};
 ghost use Rattle.fcg_views.specs.ClassFile as file;
 ghost use Rattle.fcg_views.specs.ClassFile.{tag_of, is_wide};
-ghost use Rattle.fcg_views.specs.Breaks.Pool.{shaped_at, constant_read};
+ghost use Rattle.fcg_views.specs.Breaks.Pool.{shaped_at, constant_read, text_in, name_in, pair_in};
 ghost use Rattle.fcg_pool.specs.Entry.{shape_seen, constant_seen};
+ghost use Rattle.fcg_pool.specs.Seen.{indexes_of};
 ghost use Rattle.fcg_pool.specs.Standing.{shaped_in, constant_in, ShapeLies, Lies};
 
+use crate::check::is_one_of;
 use crate::groups::find_bad_group;
 use crate::number::{read_part, read_u1, read_u2};
+use crate::pool::Indexes;
 use fcg_views::{PoolFault, PoolRule, pool_fault_at};
 
 /// What follows a tag: a length and a text, so many bytes, an index, two indexes, or a reference kind and an index.
@@ -181,6 +184,107 @@ fn part_in(bytes: &[u8], at: usize, n: usize) -> &[u8]
     part
 }
 
+// The text of a constant of a shape, which is a Utf8.
+#[tactic(auto, unfolding(crate::specs::Standing::shaped_in, crate::specs::Standing::ShapeLies))]
+fn shaped_text(bytes: &[u8], at: usize, tag: u8, shape: Option<Shape>) -> Result<&[u8], PoolRule>
+    requires { ShapeLies bytes.now at (shape_seen shape) }
+    ensures { seen (λ text. text.now) result ≡ text_in (shaped_in bytes.now at tag (shape_seen shape)) }
+{
+    match shape {
+        None => unreachable!(),
+        Some(Shape::Text) => {
+            let len = usize::from(u2_in(bytes, at + 1));
+            Ok(part_in(bytes, at + 3, len))
+        }
+        Some(Shape::Bytes(_)) => Err(PoolRule::WrongKind),
+        Some(Shape::One) => Err(PoolRule::WrongKind),
+        Some(Shape::Two) => Err(PoolRule::WrongKind),
+        Some(Shape::Kinded) => Err(PoolRule::WrongKind),
+    }
+}
+
+/// The text of the constant that stands at a place, which is a Utf8.
+#[tactic(auto, unfolding(crate::specs::Standing::constant_in))]
+pub fn text_at(bytes: &[u8], at: usize) -> Result<&[u8], PoolRule>
+    requires { Lies bytes.now at }
+    ensures { seen (λ text. text.now) result ≡ text_in (constant_in bytes.now at) }
+{
+    let tag = bytes[at];
+    shaped_text(bytes, at, tag, shape_of(tag))
+}
+
+// The index of the name of a constant of a shape, which is a Class.
+#[tactic(auto, unfolding(crate::specs::Standing::shaped_in, crate::specs::Standing::ShapeLies))]
+fn shaped_name(bytes: &[u8], at: usize, tag: u8, shape: Option<Shape>) -> Result<u16, PoolRule>
+    requires { ShapeLies bytes.now at (shape_seen shape) }
+    ensures { result ≡ name_in (shaped_in bytes.now at tag (shape_seen shape)) }
+{
+    match shape {
+        None => unreachable!(),
+        Some(Shape::Text) => Err(PoolRule::WrongKind),
+        Some(Shape::Bytes(_)) => Err(PoolRule::WrongKind),
+        Some(Shape::One) => {
+            if tag == 7 {
+                Ok(u2_in(bytes, at + 1))
+            } else {
+                Err(PoolRule::WrongKind)
+            }
+        }
+        Some(Shape::Two) => Err(PoolRule::WrongKind),
+        Some(Shape::Kinded) => Err(PoolRule::WrongKind),
+    }
+}
+
+/// The index of the name of the constant that stands at a place, which is a Class.
+#[tactic(auto, unfolding(crate::specs::Standing::constant_in))]
+pub fn name_at(bytes: &[u8], at: usize) -> Result<u16, PoolRule>
+    requires { Lies bytes.now at }
+    ensures { result ≡ name_in (constant_in bytes.now at) }
+{
+    let tag = bytes[at];
+    shaped_name(bytes, at, tag, shape_of(tag))
+}
+
+// The two indexes of a constant of a shape, which is of one of these tags.
+#[tactic(auto, unfolding(crate::specs::Standing::shaped_in, crate::specs::Standing::ShapeLies))]
+fn shaped_pair(
+    bytes: &[u8],
+    at: usize,
+    tags: &[u8],
+    tag: u8,
+    shape: Option<Shape>,
+) -> Result<Indexes, PoolRule>
+    requires { ShapeLies bytes.now at (shape_seen shape) }
+    ensures { seen indexes_of result ≡ pair_in tags.now (shaped_in bytes.now at tag (shape_seen shape)) }
+{
+    match shape {
+        None => unreachable!(),
+        Some(Shape::Text) => Err(PoolRule::WrongKind),
+        Some(Shape::Bytes(_)) => Err(PoolRule::WrongKind),
+        Some(Shape::One) => Err(PoolRule::WrongKind),
+        Some(Shape::Two) => {
+            if is_one_of(tags, tag) {
+                let first = u2_in(bytes, at + 1);
+                let second = u2_in(bytes, at + 3);
+                Ok(Indexes { tag, first, second })
+            } else {
+                Err(PoolRule::WrongKind)
+            }
+        }
+        Some(Shape::Kinded) => Err(PoolRule::WrongKind),
+    }
+}
+
+/// The two indexes of the constant that stands at a place, which is of one of these tags.
+#[tactic(auto, unfolding(crate::specs::Standing::constant_in))]
+pub fn pair_at(bytes: &[u8], at: usize, tags: &[u8]) -> Result<Indexes, PoolRule>
+    requires { Lies bytes.now at }
+    ensures { seen indexes_of result ≡ pair_in tags.now (constant_in bytes.now at) }
+{
+    let tag = bytes[at];
+    shaped_pair(bytes, at, tags, tag, shape_of(tag))
+}
+
 #[tactic(auto, unfolding(crate::specs::Standing::shaped_in, crate::specs::Standing::ShapeLies))]
 fn find_shaped(bytes: &[u8], at: usize, tag: u8, shape: Option<Shape>) -> Entry<'_>
     requires { ShapeLies bytes.now at (shape_seen shape) }
@@ -197,6 +301,32 @@ fn find_shaped(bytes: &[u8], at: usize, tag: u8, shape: Option<Shape>) -> Entry<
         Some(Shape::Two) => Entry::Pair(tag, u2_in(bytes, at + 1), u2_in(bytes, at + 3)),
         Some(Shape::Kinded) => Entry::Handle(bytes[at + 1], u2_in(bytes, at + 2)),
     }
+}
+
+// The tag of a constant of a shape.
+#[tactic(auto, unfolding(crate::specs::Standing::shaped_in, crate::specs::Standing::ShapeLies))]
+fn shaped_tag(bytes: &[u8], at: usize, tag: u8, shape: Option<Shape>) -> u8
+    requires { ShapeLies bytes.now at (shape_seen shape) }
+    ensures { result ≡ tag_of (shaped_in bytes.now at tag (shape_seen shape)) }
+{
+    match shape {
+        None => unreachable!(),
+        Some(Shape::Text) => 1,
+        Some(Shape::Bytes(_)) => tag,
+        Some(Shape::One) => tag,
+        Some(Shape::Two) => tag,
+        Some(Shape::Kinded) => 15,
+    }
+}
+
+/// The tag of the constant that stands at a place, without what follows it.
+#[tactic(auto, unfolding(crate::specs::Standing::constant_in))]
+pub fn find_tag(bytes: &[u8], at: usize) -> u8
+    requires { Lies bytes.now at }
+    ensures { result ≡ tag_of (constant_in bytes.now at) }
+{
+    let tag = bytes[at];
+    shaped_tag(bytes, at, tag, shape_of(tag))
 }
 
 /// The constant that stands at a place.

@@ -55,7 +55,7 @@ pub fn read_slots(
     ensures value { Gives (λ x. (map (slot_in bytes.now) x.0.items, next_of x.1)) result (rows (slot_at bytes.now) (count - 1) 1 (start at)) }
     ensures inside { IfOk result (λ x. (x.1.at ≤ length bytes.now) × IsPool bytes.now x.0.items) }
 {
-    let mut places = Vec::new(alloc);
+    let mut places = Vec::with_capacity(alloc, usize::from(count))?;
     let mut next = Next { at, second: false };
     for index in 1..count {
         let (place, after) = read_slot(bytes, index, next)?;

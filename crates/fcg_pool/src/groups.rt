@@ -1,6 +1,7 @@
 //! Modified UTF-8.
 ghost use Rattle.std.specs.Prelude.{◌≡◌, ◌+◌, ◌<◌, ◌^◌, length};
-ghost use Rattle.fcg_views.specs.Breaks.Groups.{bad_group, group_len};
+ghost use Rattle.std.specs.List.{list_all};
+ghost use Rattle.fcg_views.specs.Breaks.Groups.{is_single, bad_group, group_len};
 
 // How many bytes the group at the front has, or 0.
 fn front_group(text: &[u8]) -> usize
@@ -14,8 +15,28 @@ fn front_group(text: &[u8]) -> usize
     }
 }
 
+// Whether each byte is a group of its own.
+fn are_single(text: &[u8]) -> bool
+    ensures { result ≡ list_all is_single text.now }
+{
+    text.iter().all(|byte| 1 <= *byte && *byte <= 0x7f)
+}
+
 /// The first bad group of a text that stands at a place.
+#[tactic(auto, using(crate::proofs::GroupLemmas::single_none))]
 pub fn find_bad_group(text: &[u8], at: usize) -> Option<usize>
+    requires { at + length text.now < 2 ^ 64 }
+    ensures { result ≡ bad_group at text.now }
+{
+    // most texts are of single bytes, which are looked at in the shortest loop
+    if are_single(text) {
+        return None;
+    }
+    scan_groups(text, at)
+}
+
+// The first bad group, found group by group.
+fn scan_groups(text: &[u8], at: usize) -> Option<usize>
     requires { at + length text.now < 2 ^ 64 }
     ensures { result ≡ bad_group at text.now }
 {

@@ -15,5 +15,6 @@ mod tests;
 
 pub use check::is_one_of;
 pub use fcg_views::{CodeRule, PoolFault, PoolRule};
+pub use groups::find_bad_group;
 pub use instruction::{Instruction, next_instruction};
 pub use pool::{Pool, RefSpan, RefTexts};

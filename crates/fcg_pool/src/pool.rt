@@ -3,8 +3,8 @@ ghost use Rattle.std.specs.Prelude.{◌≡◌, ◌≤◌, ◌<◌, ◌∷◌, []
 ghost use Rattle.fcg_grammar.specs.Reading.{seen, Gives};
 ghost use Rattle.fcg_grammar.specs.Rows.{each};
 
-use crate::check::{check_slot, is_one_of};
-use crate::constant::{Entry, find_constant};
+use crate::check::check_slot;
+use crate::constant::{Entry, find_constant, find_tag, name_at, pair_at, text_at};
 use crate::entries::read_slots;
 use crate::number::read_u2;
 use fcg_grammar::ReadError;
@@ -66,7 +66,9 @@ impl<'a> Model for Pool<'a> {
 
 impl<'a> Pool<'a> {
     ghost use Rattle.fcg_views.specs.Breaks.Pool.{Entries, constant_of, text_of, name_of, pair_of, reference_of, handle_of, dynamic_of, slot_kept, pool_at};
+    ghost use Rattle.fcg_views.specs.ClassFile.{tag_of};
     ghost use Rattle.fcg_pool.specs.Entry.{constant_seen};
+    ghost use Rattle.fcg_pool.specs.Standing.{constant_in, Lies};
     ghost use Rattle.fcg_pool.specs.Seen.{indexes_of, span_of, AreRefTexts, class_name_of, handle_pair_of, handle_indexes_of};
 
     /// The bytes of the file.
@@ -84,10 +86,11 @@ impl<'a> Pool<'a> {
         self.places.len()
     }
 
-    // The constant at an index.
+    // The place of the constant at an index.
     #[tactic(auto, unfolding(fcg_views::specs::Breaks::Pool::constant_of))]
-    pub(crate) fn constant(&self, index: u16) -> Result<Entry<'a>, PoolRule>
-        ensures { seen constant_seen result ≡ constant_of self.now index }
+    fn place(&self, index: u16) -> Result<usize, PoolRule>
+        ensures value { seen (constant_in self.now.bytes) result ≡ constant_of self.now index }
+        ensures lies { IfOk result (Lies self.now.bytes) }
     {
         if index == 0 {
             return Err(PoolRule::BadIndex);
@@ -95,8 +98,24 @@ impl<'a> Pool<'a> {
         match self.places.get(usize::from(index) - 1) {
             None => Err(PoolRule::BadIndex),
             Some(None) => Err(PoolRule::BadIndex),
-            Some(Some(at)) => Ok(find_constant(self.bytes, *at)),
+            Some(Some(at)) => Ok(*at),
         }
+    }
+
+    // The constant at an index.
+    pub(crate) fn constant(&self, index: u16) -> Result<Entry<'a>, PoolRule>
+        ensures { seen constant_seen result ≡ constant_of self.now index }
+    {
+        let at = self.place(index)?;
+        Ok(find_constant(self.bytes(), at))
+    }
+
+    // The tag of the constant at an index.
+    pub(crate) fn tag(&self, index: u16) -> Result<u8, PoolRule>
+        ensures { result ≡ seen tag_of (constant_of self.now index) }
+    {
+        let at = self.place(index)?;
+        Ok(find_tag(self.bytes(), at))
     }
 
     /// The bytes of the Utf8 at an index (JVMS 4.4.7), which are a slice of the file.
@@ -104,13 +123,8 @@ impl<'a> Pool<'a> {
     pub fn utf8(&self, index: u16) -> Result<&'a [u8], PoolRule>
         ensures { seen (λ text. text.now) result ≡ text_of self.now index }
     {
-        match self.constant(index)? {
-            Entry::Utf8(text) => Ok(text),
-            Entry::Plain(_, _) => Err(PoolRule::WrongKind),
-            Entry::Named(_, _) => Err(PoolRule::WrongKind),
-            Entry::Pair(_, _, _) => Err(PoolRule::WrongKind),
-            Entry::Handle(_, _) => Err(PoolRule::WrongKind),
-        }
+        let at = self.place(index)?;
+        text_at(self.bytes(), at)
     }
 
     /// The index of the name of the Class at an index (JVMS 4.4.1).
@@ -118,19 +132,8 @@ impl<'a> Pool<'a> {
     pub fn class_index(&self, index: u16) -> Result<u16, PoolRule>
         ensures { result ≡ name_of self.now index }
     {
-        match self.constant(index)? {
-            Entry::Utf8(_) => Err(PoolRule::WrongKind),
-            Entry::Plain(_, _) => Err(PoolRule::WrongKind),
-            Entry::Named(tag, name) => {
-                if tag == 7 {
-                    Ok(name)
-                } else {
-                    Err(PoolRule::WrongKind)
-                }
-            }
-            Entry::Pair(_, _, _) => Err(PoolRule::WrongKind),
-            Entry::Handle(_, _) => Err(PoolRule::WrongKind),
-        }
+        let at = self.place(index)?;
+        name_at(self.bytes(), at)
     }
 
     /// The name of the Class at an index (JVMS 4.4.1).
@@ -146,19 +149,8 @@ impl<'a> Pool<'a> {
     fn pair(&self, tags: &[u8], index: u16) -> Result<Indexes, PoolRule>
         ensures { seen indexes_of result ≡ pair_of self.now tags.now index }
     {
-        match self.constant(index)? {
-            Entry::Utf8(_) => Err(PoolRule::WrongKind),
-            Entry::Plain(_, _) => Err(PoolRule::WrongKind),
-            Entry::Named(_, _) => Err(PoolRule::WrongKind),
-            Entry::Pair(tag, first, second) => {
-                if is_one_of(tags, tag) {
-                    Ok(Indexes { tag, first, second })
-                } else {
-                    Err(PoolRule::WrongKind)
-                }
-            }
-            Entry::Handle(_, _) => Err(PoolRule::WrongKind),
-        }
+        let at = self.place(index)?;
+        pair_at(self.bytes(), at, tags)
     }
 
     /// What the Fieldref, Methodref or InterfaceMethodref at an index names (JVMS 4.4.2), with the indexes of its Utf8s.

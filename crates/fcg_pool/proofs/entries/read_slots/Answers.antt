@@ -10,7 +10,7 @@ use Rattle.fcg_pool.proofs.entries.read_slots.Goals as goal
 
 pub returns-in_err-place-clause-value : goal.returns-in_err-place-clause-value
 returns-in_err-place-clause-value c =
-    let p = err_from_is_err_and c.from_residual.result c.from_residual.ensures.1 in
+    let p = err_from_is_err_and c.from_residual-in_err-place.result c.from_residual-in_err-place.ensures.1 in
     rw (p.1, p.2) (rows_end (slot_at c.args.bytes.now) (map (slot_in c.args.bytes.now) c.loop-index.places.items) c.args.count c.loop-index.index (next_of c.loop-index.next) _ _ c.loop-index-test.true (sym c.in_err-place.ensures.value) c.loop-index.invariant.0)
 
 pub loop-index-preserved : goal.loop-index-preserved

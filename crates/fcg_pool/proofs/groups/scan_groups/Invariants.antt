@@ -1,6 +1,6 @@
 use Rattle.std.proofs.Common.{◌≡◌, ◌+◌, length}
 use Rattle.fcg_views.specs.Breaks.Groups.{bad_group}
-use Rattle.fcg_pool.proofs.groups.find_bad_group.Given as goal
+use Rattle.fcg_pool.proofs.groups.scan_groups.Given as goal
 
 abbrev pub invariant-loop-rest : goal.invariant-loop-rest
 invariant-loop-rest l = (bad_group l.place l.rest ≡ bad_group l.at l.text) × (l.place + length l.rest ≡ l.at + length l.text)

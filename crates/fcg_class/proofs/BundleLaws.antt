@@ -50,7 +50,7 @@ not_true : (b : Bool) → not b ≡ true → b ≡ false
 not_true true e = absurd cc
 not_true false e = refl
 
-short_path : (path : List ℕ) → is_path path ≡ true → (is_path_length (length path) ≡ true) × (length path < 2 ^ 16)
+pub short_path : (path : List ℕ) → is_path path ≡ true → (is_path_length (length path) ≡ true) × (length path < 2 ^ 16)
 short_path path e =
     let a = and_parts (is_path_length (length path)) _ e in
     let b = and_parts (leb 1 (length path)) (leb (length path) 1024) a.0 in
@@ -66,10 +66,10 @@ listed e = ap (λ (l : List ℕ). u2 (length e.path) ++ (e.path ++ (u4 (length e
 listed_at : {bytes : List ℕ} {at : ℕ} {after : ℕ} (e : Entry) → Stands bytes at (u2 (length e.path) ++ (e.path ++ (u4 (length e.body) ++ e.body))) after → Stands bytes at (entry e) after
 listed_at {bytes} {at} {after} e s = subst (λ (l : List ℕ). Stands bytes at l after) (listed e) s
 
-reopened : (e : Entry) (rest : List ℕ) → entry e ++ rest ≡ u2 (length e.path) ++ (e.path ++ (u4 (length e.body) ++ (e.body ++ rest)))
+pub reopened : (e : Entry) (rest : List ℕ) → entry e ++ rest ≡ u2 (length e.path) ++ (e.path ++ (u4 (length e.body) ++ (e.body ++ rest)))
 reopened e rest = ap (λ (l : List ℕ). l ++ rest) (sym (listed e)) ∙ ap (λ (l : List ℕ). u2 (length e.path) ++ l) (append_assoc e.path (u4 (length e.body) ++ e.body) rest)
 
-entry_length : (e : Entry) → length (entry e) ≡ 2 + length e.path + 4 + length e.body
+pub entry_length : (e : Entry) → length (entry e) ≡ 2 + length e.path + 4 + length e.body
 entry_length e = ap length (sym (listed e)) ∙ omega (arith, length-append e.path (u4 (length e.body) ++ e.body))
 
 -- from entry to entry, with the paths before and the sites that may still come: what the entry holds, and what it shows
@@ -100,7 +100,7 @@ module _ (bytes : List ℕ) (fits : IsBytes bytes) where
       let s = subst (λ (m : ℕ). Stands bytes at (u2 m) (at + 2)) (sym text.1) n.0 in
       subst (λ (y : List ℕ × ℕ). FoundPath at y.0 y.1) (ok_is _ x d.2) (record { stands = Stands-then s text.0; kept = kept_ok _ _ d.0 d.1 })
 
-  path_only : (k at : ℕ) (path rest : List ℕ) (after : ℕ) → is_path path ≡ true → Stands bytes at (u2 (length path) ++ (path ++ rest)) after
+  pub path_only : (k at : ℕ) (path rest : List ℕ) (after : ℕ) → is_path path ≡ true → Stands bytes at (u2 (length path) ++ (path ++ rest)) after
       → (path_at bytes k at ≡ Ok (path, at + 2 + length path)) × Stands bytes (at + 2 + length path) rest after
   unfolding path_at
   path_only k at path rest after kept s =

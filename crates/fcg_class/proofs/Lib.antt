@@ -11,3 +11,6 @@ pub mod PathLemmas
 pub mod EntryLemmas
 pub mod JarLemmas
 pub mod BundleLaws
+pub mod PackLemmas
+pub mod PackLaws
+pub mod PackFaults

@@ -10,3 +10,5 @@ pub mod Path
 pub mod Bundle
 pub mod Entries
 pub mod Handles
+pub mod Pack
+pub mod Packing

@@ -145,7 +145,7 @@ pub fn finish_methods(
 {
     let mut count = count_sites(&methods);
     let mut bootstraps = Bootstraps::new(alloc, names.pool(), rows)?;
-    let mut done = Vec::new(alloc);
+    let mut done = Vec::with_capacity(alloc, methods.len())?;
     for unfinished in methods {
         let (method, after) = finish_method(alloc, names, &mut bootstraps, unfinished, count)?;
         done.push(method)?;

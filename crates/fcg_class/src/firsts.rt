@@ -1,49 +1,124 @@
 //! Which texts of a constant pool are the same, so that they are compared once for each Utf8 and not for each use.
-ghost use Rattle.std.specs.Prelude.{◌≡◌, IfOk, slice_index_or};
-ghost use Rattle.fcg_class.specs.Firsts.{AreFirsts, IsFirst};
+ghost use Rattle.std.specs.Prelude.{◌≡◌, IfOk, Ok, Some, slice_index_or};
+ghost use Rattle.std.specs.BTreeMap.{IsEmpty};
+ghost use Rattle.fcg_views.specs.Breaks.Pool.{text_of};
+ghost use Rattle.fcg_class.specs.Firsts.{first_in, Grows, AreAsked, AllUnasked};
 
+use crate::text::Text;
 use fcg_pool::Pool;
 use std::alloc::{AllocError, Global};
 use std::collections::BTreeMap;
 
-/// For each index of a Utf8 the first index of the same text. For each Utf8 it makes a logarithm of their number in
-/// comparisons, each as long as its text at most.
-pub fn find_firsts(alloc: Global, pool: &Pool<'_>) -> Result<Vec<u16>, AllocError>
-    ensures { IfOk result (λ firsts. AreFirsts pool.now firsts.items) }
-{
-    let mut firsts = Vec::with_capacity(alloc, pool.len() + 1)?;
-    let mut known = BTreeMap::new(alloc);
-    for index in 0..pool.len() as u16 + 1 {
-        let first = find_first(pool, &mut known, index)?;
-        firsts.push(first)?;
-    }
-    Ok(firsts)
+/// The texts of a pool that were added, each with the first index that it was added by.
+#[derive(Drop)]
+pub struct FirstTexts<'a> {
+    pub pool: &'a Pool<'a>,
+    pub known: BTreeMap<&'a [u8], u16>,
+    /// By the index of a Utf8 the first index of its text, or 0 where the Utf8 wasn't added.
+    pub firsts: Vec<u16>,
 }
 
-// The first index of the text at an index, or 0 where no text is.
-fn find_first<'a>(
-    pool: &Pool<'a>,
-    known: &mut BTreeMap<&'a [u8], u16>,
-    index: u16,
-) -> Result<u16, AllocError>
-    ensures { IfOk result (λ first. IsFirst pool.now known.old known.new index first) }
-{
-    let Ok(text) = pool.utf8(index) else {
-        return Ok(0);
-    };
-    if let Some(first) = known.get(text) {
-        return Ok(*first);
+impl<'a> FirstTexts<'a> {
+    /// No text yet. It takes memory for each index of the pool.
+    pub fn new(alloc: Global, pool: &'a Pool<'a>) -> Result<FirstTexts<'a>, AllocError>
+        ensures pool { IfOk result (λ texts. texts.pool.now ≡ pool.now) }
+        ensures none { IfOk result (λ texts. IsEmpty texts.known) }
+        ensures asked { IfOk result (λ texts. AreAsked texts.pool.now texts.known texts.firsts.items) }
+    {
+        let firsts = unasked(alloc, pool.len() + 1)?;
+        Ok(FirstTexts {
+            pool,
+            known: BTreeMap::new(alloc),
+            firsts,
+        })
     }
-    known.insert(text, index)?;
-    Ok(index)
+
+    /// The first index of a text, where the text was added. Of a Utf8 that was added it takes constant time, of another
+    /// a logarithm of the number of texts in comparisons, each as long as the text at most.
+    pub fn find(&self, text: &Text<'_>) -> Option<u16>
+        requires asked { AreAsked self.now.pool.now self.now.known self.now.firsts.items }
+        requires text { text_of self.now.pool.now text.now.index ≡ Ok text.now.bytes.now }
+        ensures { result ≡ first_in self.now.known text.now.bytes.now }
+    {
+        let first = first_of(&self.firsts, text.index);
+        if first != 0 {
+            return Some(first);
+        }
+        find_known(&self.known, text.bytes)
+    }
+
+    /// Adds a text, and gives its first index. It takes as much time as `find`.
+    pub fn add(&mut self, text: &Text<'a>) -> Result<u16, AllocError>
+        requires asked { AreAsked self.old.pool.now self.old.known self.old.firsts.items }
+        requires text { text_of self.old.pool.now text.now.index ≡ Ok text.now.bytes.now }
+        ensures first { IfOk result (λ first. first_in self.new.known text.now.bytes.now ≡ Some first) }
+        ensures kept { Grows self.old.known self.new.known }
+        ensures asked { AreAsked self.new.pool.now self.new.known self.new.firsts.items }
+        ensures same { self.new.pool.now ≡ self.old.pool.now }
+    {
+        let first = self.find_or_insert(text)?;
+        if let Some(slot) = self.firsts.get_mut(usize::from(text.index)) {
+            *slot = first;
+        }
+        Ok(first)
+    }
+
+    // The first index of a text, which the map has afterwards.
+    fn find_or_insert(&mut self, text: &Text<'a>) -> Result<u16, AllocError>
+        requires asked { AreAsked self.old.pool.now self.old.known self.old.firsts.items }
+        requires text { text_of self.old.pool.now text.now.index ≡ Ok text.now.bytes.now }
+        ensures first { IfOk result (λ first. first_in self.new.known text.now.bytes.now ≡ Some first) }
+        ensures kept { Grows self.old.known self.new.known }
+        ensures asked { AreAsked self.new.pool.now self.new.known self.new.firsts.items }
+        ensures same { self.new.pool.now ≡ self.old.pool.now }
+    {
+        if let Some(first) = self.find(text) {
+            return Ok(first);
+        }
+        self.known.insert(text.bytes, text.index)?;
+        Ok(text.index)
+    }
+
+    /// Adds a name and a descriptor, as `add` does, and gives their first indexes.
+    pub fn add_both(&mut self, name: &Text<'a>, desc: &Text<'a>) -> Result<(u16, u16), AllocError>
+        requires asked { AreAsked self.old.pool.now self.old.known self.old.firsts.items }
+        requires name { text_of self.old.pool.now name.now.index ≡ Ok name.now.bytes.now }
+        requires desc { text_of self.old.pool.now desc.now.index ≡ Ok desc.now.bytes.now }
+        ensures name { IfOk result (λ firsts. first_in self.new.known name.now.bytes.now ≡ Some firsts.0) }
+        ensures desc { IfOk result (λ firsts. first_in self.new.known desc.now.bytes.now ≡ Some firsts.1) }
+        ensures kept { Grows self.old.known self.new.known }
+        ensures asked { AreAsked self.new.pool.now self.new.known self.new.firsts.items }
+        ensures same { self.new.pool.now ≡ self.old.pool.now }
+    {
+        let first = self.add(name)?;
+        let second = self.add(desc)?;
+        Ok((first, second))
+    }
 }
 
-/// The first index of the text at an index.
-pub fn first_of(firsts: &[u16], index: u16) -> u16
+// So many Utf8s that weren't added.
+fn unasked(alloc: Global, count: usize) -> Result<Vec<u16>, AllocError>
+    ensures { IfOk result (λ firsts. AllUnasked firsts.items) }
+{
+    Ok(vec![in alloc; 0; count]?)
+}
+
+// The number at an index, or 0.
+fn first_of(firsts: &[u16], index: u16) -> u16
     ensures { result ≡ slice_index_or firsts.now index 0 }
 {
     match firsts.get(usize::from(index)) {
         Some(first) => *first,
         None => 0,
+    }
+}
+
+// The index that a map has for a text.
+fn find_known(known: &BTreeMap<&[u8], u16>, text: &[u8]) -> Option<u16>
+    ensures { result ≡ first_in known.now text.now }
+{
+    match known.get(text) {
+        Some(first) => Some(*first),
+        None => None,
     }
 }

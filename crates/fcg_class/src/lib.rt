@@ -19,6 +19,7 @@ mod members;
 mod methods;
 mod names;
 mod number;
+mod packing;
 mod path;
 mod site;
 #[cfg(test)]
@@ -26,4 +27,5 @@ mod tests;
 mod text;
 
 pub use bundle::{BundleFault, BundleRule, read_bundle};
-pub use laws::one_bundle_verdict;
+pub use laws::{one_bundle_verdict, packed_bundles_read};
+pub use packing::{PackRefusal, pack};

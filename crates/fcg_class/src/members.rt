@@ -149,7 +149,8 @@ fn read_method<'a>(
     let bytes = table.pool().bytes();
     prove!(at <= bytes.len());
     let declared = find_declared(names, DescKind::Method, at)?;
-    if table.has(&declared.name, &declared.desc) {
+    let doubled = table.has(&declared.name, &declared.desc)?;
+    if doubled {
         return Err(ReadError::Fault(fault_at(at, 0, ClassRule::DoubleMethod)));
     }
     let (after, code) = read_attributes(alloc, names, table.site_count(), at + 6)?;

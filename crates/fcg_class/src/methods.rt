@@ -6,7 +6,7 @@ ghost use Rattle.fcg_views.specs.Valid.{site_count};
 ghost use Rattle.fcg_class.specs.Methods.{is_signature, methods_of};
 
 use crate::calls::Unfinished;
-use crate::firsts::{find_firsts, first_of};
+use crate::firsts::FirstTexts;
 use crate::text::Text;
 use fcg_pool::Pool;
 use std::alloc::{AllocError, Global};
@@ -17,10 +17,9 @@ use std::marker::Model;
 /// are kept as indexes of the constant pool, so that texts are compared once for each Utf8 and not for each method.
 #[derive(Drop)]
 pub struct MethodTable<'a> {
-    pool: &'a Pool<'a>,
     methods: Vec<Unfinished>,
-    // by the index of a Utf8, the first index of its text
-    firsts: Vec<u16>,
+    // the names and the descriptors of the methods
+    texts: FirstTexts<'a>,
     // of each method the first indexes of its name and its descriptor
     signatures: BTreeSet<(u16, u16)>,
     // how many sites the methods have
@@ -32,20 +31,19 @@ impl<'a> Model for MethodTable<'a> {
 
     ghost Value = { Table };
 
-    ghost view = { λ t. record { pool = t.pool.now; methods = t.methods.items } };
+    ghost view = { λ t. record { pool = t.texts.pool.now; methods = t.methods.items } };
 
-    ghost invariant = { λ t. IsTable t.pool.now t.methods.items t.firsts.items t.signatures t.sites };
+    ghost invariant = { λ t. IsTable t.methods.items t.texts.pool.now t.texts.known t.texts.firsts.items t.signatures t.sites };
 }
 
 impl<'a> MethodTable<'a> {
-    /// No method yet. Takes a logarithm of the number of the pool's texts in comparisons for each of them.
+    /// No method yet. It takes memory for each index of the pool.
     pub fn new(alloc: Global, pool: &'a Pool<'a>) -> Result<MethodTable<'a>, AllocError>
         ensures { IfOk result (λ table. table ≡ record { pool = pool.now; methods = [] }) }
     {
         Ok(MethodTable {
-            pool,
             methods: Vec::new(alloc),
-            firsts: find_firsts(alloc, pool)?,
+            texts: FirstTexts::new(alloc, pool)?,
             signatures: BTreeSet::new(alloc),
             sites: 0,
         })
@@ -55,7 +53,7 @@ impl<'a> MethodTable<'a> {
     pub fn pool(&self) -> &'a Pool<'a>
         ensures { result.now ≡ self.now.pool }
     {
-        self.pool
+        self.texts.pool
     }
 
     /// How many sites the methods have.
@@ -66,17 +64,16 @@ impl<'a> MethodTable<'a> {
         self.sites
     }
 
-    /// Whether a method has this name and descriptor. Compares a logarithm of the number of methods of indexes.
-    pub fn has(&self, name: &Text<'_>, desc: &Text<'_>) -> bool
-        requires name { text_of self.now.pool name.now.index ≡ Ok name.now.bytes.now }
-        requires desc { text_of self.now.pool desc.now.index ≡ Ok desc.now.bytes.now }
-        ensures { result ≡ list_any (is_signature name.now.bytes.now desc.now.bytes.now) (methods_of self.now.methods) }
+    /// Whether a method has this name and descriptor. Compares a logarithm of the number of methods of indexes, and where
+    /// a Utf8 is asked for the first time a logarithm of their number of texts.
+    pub fn has(&mut self, name: &Text<'a>, desc: &Text<'a>) -> Result<bool, AllocError>
+        requires name { text_of self.old.pool name.now.index ≡ Ok name.now.bytes.now }
+        requires desc { text_of self.old.pool desc.now.index ≡ Ok desc.now.bytes.now }
+        ensures value { IfOk result (λ has. has ≡ list_any (is_signature name.now.bytes.now desc.now.bytes.now) (methods_of self.old.methods)) }
+        ensures same { self.new ≡ self.old }
     {
-        let signature = (
-            first_of(&self.firsts, name.index),
-            first_of(&self.firsts, desc.index),
-        );
-        self.signatures.contains(&signature)
+        let signature = self.texts.add_both(name, desc)?;
+        Ok(self.signatures.contains(&signature))
     }
 
     /// Adds a method of this name and descriptor. The methods have at most 1,000,000 sites with its own. Without memory
@@ -84,8 +81,8 @@ impl<'a> MethodTable<'a> {
     pub fn push(
         &mut self,
         method: Unfinished,
-        name: &Text<'_>,
-        desc: &Text<'_>,
+        name: &Text<'a>,
+        desc: &Text<'a>,
     ) -> Result<(), AllocError>
         requires name { (text_of self.old.pool name.now.index ≡ Ok name.now.bytes.now) × (method.0.name ≡ name.now.bytes.now) }
         requires desc { (text_of self.old.pool desc.now.index ≡ Ok desc.now.bytes.now) × (method.0.desc ≡ desc.now.bytes.now) }
@@ -93,11 +90,8 @@ impl<'a> MethodTable<'a> {
         ensures ok { OnOk result (self.new.methods ≡ self.old.methods ++ method ∷ []) }
         ensures same { self.new.pool ≡ self.old.pool }
     {
-        let signature = (
-            first_of(&self.firsts, name.index),
-            first_of(&self.firsts, desc.index),
-        );
         self.methods.reserve(1)?;
+        let signature = self.texts.add_both(name, desc)?;
         self.signatures.insert(signature)?;
         self.sites += method.0.sites.as_slice().len();
         self.methods.push(method).unwrap();

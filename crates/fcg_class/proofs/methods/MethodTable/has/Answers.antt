@@ -1,14 +1,21 @@
-use Rattle.std.proofs.Common.{ℕ, List, get_or, ap, ◌∙◌}
-use Rattle.fcg_views.specs.Breaks.Pool.{text_of}
-use Rattle.fcg_class.specs.Methods.{Table}
+use Rattle.std.proofs.Common.{ap, ◌∙◌}
+use Rattle.std.specs.List.{list_any}
+use Rattle.fcg_class.specs.Methods.{Table, methods_of, is_signature}
+use Rattle.fcg_class.proofs.MethodLemmas.{IsTable-grown, signed}
 use Rattle.fcg_class.proofs.methods.MethodTable.has.Goals as goal
 
-pub returns : goal.returns
-returns c =
-    let i = c.args.name.now.index in
-    let j = c.args.desc.now.index in
-    let at_i = ap (λ (t : Table). text_of t.pool i) c.self.view_is ∙ c.requires.name in
-    let at_j = ap (λ (t : Table). text_of t.pool j) c.self.view_is ∙ c.requires.desc in
-    let first_i = c.first_of.ensures ∙ ap (λ (xs : List ℕ). get_or xs i 0) c.deref.ensures.value in
-    let first_j = c.first_of-2.ensures ∙ ap (λ (xs : List ℕ). get_or xs j 0) c.deref-2.ensures.value in
-    rw (← c.self.view_is, ← c.self.invariant.signatures_are i j c.args.name.now.bytes.now c.args.desc.now.bytes.now at_i at_j, ← first_i, ← first_j) c.contains.ensures
+pub invariant_of-self : goal.invariant_of-self
+invariant_of-self c =
+    IsTable-grown c.self.inside.methods.items c.self.inside.texts.pool.now c.add_both.new.self.pool.now c.self.inside.texts.known c.add_both.new.self.known c.self.inside.texts.firsts.items c.add_both.new.self.firsts.items c.self.inside.signatures c.self.inside.sites c.add_both.ensures.asked c.add_both.ensures.kept c.self.invariant
+
+pub invariant_of-self-2 : goal.invariant_of-self-2
+invariant_of-self-2 c =
+    IsTable-grown c.self.inside.methods.items c.self.inside.texts.pool.now c.add_both.new.self.pool.now c.self.inside.texts.known c.add_both.new.self.known c.self.inside.texts.firsts.items c.add_both.new.self.firsts.items c.self.inside.signatures c.self.inside.sites c.add_both.ensures.asked c.add_both.ensures.kept c.self.invariant
+
+pub returns-clause-value : goal.returns-clause-value
+returns-clause-value c =
+    let name = c.args.name.now.bytes.now in
+    let desc = c.args.desc.now.bytes.now in
+    let table = IsTable-grown c.self.inside.methods.items c.self.inside.texts.pool.now c.add_both.new.self.pool.now c.self.inside.texts.known c.add_both.new.self.known c.self.inside.texts.firsts.items c.add_both.new.self.firsts.items c.self.inside.signatures c.self.inside.sites c.add_both.ensures.asked c.add_both.ensures.kept c.self.invariant in
+    let known = signed c.add_both.new.self.known c.self.inside.signatures (methods_of c.self.inside.methods.items) c.in_ok-signature.signature.0 c.in_ok-signature.signature.1 name desc c.in_ok-signature.ensures.name c.in_ok-signature.ensures.desc table.signatures_are in
+    c.contains.ensures ∙ known ∙ ap (λ (t : Table). list_any (is_signature name desc) (methods_of t.methods)) c.self.view_is

@@ -1,0 +1,16 @@
+pub mod EntryLemmas
+pub mod TableLemmas
+pub mod StepLemmas
+pub mod AddLemmas
+pub mod WriteLemmas
+pub mod LengthLemmas
+pub mod HasLemmas
+pub mod SpellLemmas
+pub mod FactLemmas
+pub mod SoundLemmas
+pub mod WrittenLemmas
+pub mod ReadLaws
+pub mod PooledLaws
+pub mod CodeLaws
+pub mod SitesLaws
+pub mod MethodLaws

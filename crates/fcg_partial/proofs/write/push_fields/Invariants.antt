@@ -1,0 +1,10 @@
+use Rattle.std.proofs.Common.{◌≡◌, ◌++◌, take, All}
+use Rattle.std.specs.List.{flat_map}
+use Rattle.fcg_partial.specs.Written.{written_field, IsSmallField}
+use Rattle.fcg_partial.proofs.write.push_fields.Given as goal
+
+abbrev pub invariant-loop-field : goal.invariant-loop-field
+invariant-loop-field l = record {
+  text : l.out.items ≡ l.fn.out.items ++ flat_map (written_field l.names) (take l.field-index l.fields);
+  small : All IsSmallField (take l.field-index l.fields);
+}

@@ -1,0 +1,86 @@
+//! The types of a stored graph, with the places of their rows.
+ghost use Rattle.std.specs.Prelude.{◌≡◌, ◌≤◌, ◌<◌, ◌^◌, ◌+◌, ℕ, length, IfOk};
+ghost use Rattle.fcg_partial.specs.Reading.{type_at};
+ghost use Rattle.fcg_partial.specs.Marks.{marks_of, PassesType, PassesTypes, types_read};
+
+use crate::fault::RecordFault;
+use crate::marks::read_index;
+use crate::methods::read_methods;
+use crate::number::{read_u2, read_u4};
+use crate::rows::{read_fields, read_interfaces, read_super};
+use fcg_grammar::ReadError;
+use std::alloc::Global;
+
+// The places of types and of their methods.
+#[derive(Drop)]
+pub(crate) struct Places {
+    // of each type
+    pub(crate) types: Vec<u32>,
+    // of each type the number of its first method, among the methods of all types
+    pub(crate) firsts: Vec<u32>,
+    // of each method of all types
+    pub(crate) methods: Vec<u32>,
+}
+
+// The type at a place, and the place after it. The places of its methods are added to those of the types before.
+#[tactic(auto, unfolding(crate::specs::Reading::type_at))]
+fn read_type(
+    alloc: Global,
+    bytes: &[u8],
+    at: usize,
+    names: &mut [bool],
+    refs: &mut [bool],
+    methods: &mut Vec<u32>,
+) -> Result<usize, ReadError<RecordFault>>
+    requires inside { at ≤ length bytes.now }
+    requires small { length bytes.now < 2 ^ 32 }
+    ensures value { (k : ℕ) → PassesType bytes.now (length names.old) (length refs.old) (type_at bytes.now (length names.old) (length refs.old) k at) (marks_of names.old refs.old) (marks_of names.new refs.new) methods.old.items methods.new.items result }
+    ensures inside { IfOk result (λ after. (at ≤ after) × (after ≤ length bytes.now)) }
+    ensures few { IfOk result (λ after. length methods.new.items + at ≤ length methods.old.items + after) }
+{
+    let _name = read_index(bytes, at, names)?;
+    let _flags = read_u2(bytes, at + 4)?;
+    let after_super = read_super(bytes, at + 4 + 2, names)?;
+    let many = read_u2(bytes, after_super)?;
+    let after_interfaces = read_interfaces(bytes, many, after_super + 2, names)?;
+    let more = read_u2(bytes, after_interfaces)?;
+    let after_fields = read_fields(bytes, more, after_interfaces + 2, names)?;
+    let most = read_u2(bytes, after_fields)?;
+    read_methods(alloc, bytes, most, after_fields + 2, names, refs, methods)
+}
+
+// So many types, and the place after them. A type takes 22 bytes or more: its row, and its name.
+pub(crate) fn read_types(
+    alloc: Global,
+    bytes: &[u8],
+    count: u32,
+    at: usize,
+    names: &mut [bool],
+    refs: &mut [bool],
+) -> Result<(Places, usize), ReadError<RecordFault>>
+    requires inside { at ≤ length bytes.now }
+    requires small { length bytes.now < 2 ^ 32 }
+    ensures value { PassesTypes bytes.now (length names.old) (length refs.old) (types_read bytes.now (length names.old) (length refs.old) count at) (marks_of names.old refs.old) (marks_of names.new refs.new) result }
+    ensures inside { IfOk result (λ x. x.1 ≤ length bytes.now) }
+{
+    let room = (count as usize).min(bytes.len() / 22);
+    let mut types = Vec::new(alloc);
+    types.reserve(room)?;
+    let mut firsts = Vec::new(alloc);
+    firsts.reserve(room)?;
+    let mut methods = Vec::new(alloc);
+    let mut place = at;
+    for _ in 0..count {
+        let first = methods.len();
+        let after = read_type(alloc, bytes, place, names, refs, &mut methods)?;
+        types.push(place as u32)?;
+        firsts.push(first as u32)?;
+        place = after;
+    }
+    let places = Places {
+        types,
+        firsts,
+        methods,
+    };
+    Ok((places, place))
+}

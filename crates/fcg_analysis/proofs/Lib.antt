@@ -1,0 +1,12 @@
+pub mod General
+pub mod WinnerLaws
+pub mod KnownLaws
+pub mod KindLaws
+pub mod LineLaws
+pub mod ChainLaws
+pub mod OverrideLaws
+pub mod NodeLaws
+pub mod SelectedLaws
+pub mod EdgeLaws
+pub mod ReachLaws
+pub mod NextLaws

@@ -1,7 +1,7 @@
 //! The program.
 #![tactic(auto)]
 
-use fcg_bytes::{StdSink, StdSource};
+use fcg_bytes::{HostFiles, StdSink, StdSource};
 use fcg_top::run;
 use std::process::ExitCode;
 use std::{env, io};
@@ -12,11 +12,19 @@ fn main(rt: HostRuntime) -> ExitCode {
     let mut input = StdSource::new(rt.stdin());
     let mut output = StdSink::new(rt.stdout());
     let mut errors = StdSink::new(rt.stderr());
+    let mut files = HostFiles::new(&rt);
     let words = match words(&rt) {
         Ok(words) => words,
         Err(_) => Vec::new(rt.alloc()),
     };
-    let status = run(rt.alloc(), &words, &mut input, &mut output, &mut errors);
+    let status = run(
+        rt.alloc(),
+        &words,
+        &mut input,
+        &mut output,
+        &mut errors,
+        &mut files,
+    );
     ExitCode::from(status.code())
 }
 

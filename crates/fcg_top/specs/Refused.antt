@@ -47,9 +47,16 @@ bad_bundle entry offset rule = concat (codes "{\"entry\":" ∷ decimal entry ∷
 abbrev pub bad_class : ℕ → ClassFault → List ℕ
 bad_class entry f = concat (codes "{\"entry\":" ∷ decimal entry ∷ codes ",\"fault\":\"BadClass\",\"index\":" ∷ decimal f.index ∷ codes ",\"offset\":" ∷ decimal f.offset ∷ codes ",\"rule\":\"" ∷ class_rule_name f.rule ∷ codes "\"}" ∷ [])
 
+-- a path that a bundle may not have
+abbrev pub bad_path : ℕ → List ℕ
+bad_path entry = concat (codes "{\"entry\":" ∷ decimal entry ∷ codes ",\"fault\":\"BadPath\"}" ∷ [])
+
 -- the body of a refusal
 abbrev pub body_of : Refusal → List ℕ
 body_of refusals.BodyTooLong = codes "{\"fault\":\"BodyTooLong\",\"limit\":67108864}"
 body_of refusals.Jar = codes "{\"fault\":\"Jar\"}"
 body_of (refusals.BadBundle entry offset rule) = bad_bundle entry offset rule
 body_of (refusals.BadClass entry f) = bad_class entry f
+body_of refusals.Absent = codes "{\"fault\":\"Absent\"}"
+body_of refusals.TooLong = codes "{\"fault\":\"TooLong\"}"
+body_of (refusals.BadPath entry) = bad_path entry

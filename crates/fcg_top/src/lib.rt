@@ -3,6 +3,8 @@
 #![tactic(auto)]
 
 mod command;
+#[cfg(test)]
+mod pack_tests;
 mod refusal;
 mod status;
 #[cfg(test)]

@@ -1,7 +1,7 @@
 //! The lines of refusals.
 ghost use Rattle.std.specs.Prelude.{◌≡◌, ◌++◌, IfOk, OnOk, string_bytes};
 ghost use Rattle.fcg_top.specs.Text.{line};
-ghost use Rattle.fcg_top.specs.Refused.{bundle_rule_name, class_rule_name, bad_bundle, bad_class, body_of};
+ghost use Rattle.fcg_top.specs.Refused.{bundle_rule_name, class_rule_name, bad_bundle, bad_class, bad_path, body_of};
 
 use crate::status::Refusal;
 use fcg_class::BundleRule;
@@ -76,6 +76,13 @@ fn push_bad_class(out: &mut String, entry: u32, fault: ClassFault) -> Result<(),
     Ok(())
 }
 
+fn push_bad_path(out: &mut String, entry: u32) -> Result<(), AllocError>
+    ensures { OnOk result (string_bytes out.new ≡ string_bytes out.old ++ bad_path entry) }
+{
+    write!(out, "{{\"entry\":{entry},\"fault\":\"BadPath\"}}")?;
+    Ok(())
+}
+
 fn push_refusal(out: &mut String, refusal: Refusal) -> Result<(), AllocError>
     ensures { OnOk result (string_bytes out.new ≡ string_bytes out.old ++ body_of refusal) }
 {
@@ -88,6 +95,9 @@ fn push_refusal(out: &mut String, refusal: Refusal) -> Result<(), AllocError>
             rule,
         } => push_bad_bundle(out, entry, offset, rule),
         Refusal::BadClass { entry, fault } => push_bad_class(out, entry, fault),
+        Refusal::Absent => out.push_str("{\"fault\":\"Absent\"}"),
+        Refusal::TooLong => out.push_str("{\"fault\":\"TooLong\"}"),
+        Refusal::BadPath { entry } => push_bad_path(out, entry),
     }
 }
 

@@ -1,7 +1,7 @@
 //! How a run ended, and why a command stops before it writes.
 
 use fcg_bytes::ReadAllRefusal;
-use fcg_class::{BundleFault, BundleRule};
+use fcg_class::{BundleFault, BundleRule, PackRefusal};
 use fcg_grammar::ReadError;
 use fcg_views::{ClassFault, NoMemory};
 
@@ -12,9 +12,9 @@ pub enum Status {
     Ok,
     /// The words are those of no command. Nothing was read.
     Words,
-    /// The input was refused, and the refusal is on the errors.
+    /// The input or the folder was refused, and the refusal is on the errors.
     Refused,
-    /// A read of the input failed.
+    /// A read of the input failed, or a call of the files.
     ReadFailed,
     /// A write to the output failed. A front of the output was written.
     WriteFailed,
@@ -41,7 +41,7 @@ impl Status {
     }
 }
 
-/// Why an input is refused.
+/// Why an input is refused, or a folder.
 #[derive(Clone, Copy, Debug, PartialEq, Eq)]
 pub enum Refusal {
     /// It is longer than the longest bundle.
@@ -63,13 +63,23 @@ pub enum Refusal {
         /// The fault, with its place in the entry's body.
         fault: ClassFault,
     },
+    /// There is no such folder.
+    Absent,
+    /// The folder has too many files, or they have too many bytes for a bundle.
+    TooLong,
+    /// A path of the folder isn't one that a bundle may have.
+    BadPath {
+        /// The number of the path, from 0, among those that are packed.
+        entry: u32,
+    },
 }
 
-/// Why a command stopped before it wrote.
+/// Why a command stopped. Only after `WriteFailed` it has written some of its output.
 #[derive(Clone, Copy, Debug, PartialEq, Eq)]
 pub enum Stop {
     Refused(Refusal),
     ReadFailed,
+    WriteFailed,
     NoMemory,
 }
 
@@ -123,6 +133,24 @@ impl From<ReadError<BundleFault>> for Stop {
             ReadError::Fault(BundleFault::Class { entry, fault }) => {
                 Stop::Refused(Refusal::BadClass { entry, fault })
             }
+        }
+    }
+}
+
+impl From<PackRefusal> for Stop {
+    ghost use Rattle.std.specs.Prelude.{◌≡◌};
+    ghost use Rattle.fcg_top.specs.Stopped.{stop_of_pack};
+
+    ghost from_gives = { λ refusal e. e ≡ stop_of_pack refusal };
+
+    fn from(refusal: PackRefusal) -> Stop {
+        match refusal {
+            PackRefusal::NoMemory => Stop::NoMemory,
+            PackRefusal::Absent => Stop::Refused(Refusal::Absent),
+            PackRefusal::FilesFailed => Stop::ReadFailed,
+            PackRefusal::TooLong => Stop::Refused(Refusal::TooLong),
+            PackRefusal::BadPath { entry } => Stop::Refused(Refusal::BadPath { entry }),
+            PackRefusal::WriteFailed => Stop::WriteFailed,
         }
     }
 }

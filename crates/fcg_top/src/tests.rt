@@ -4,13 +4,13 @@ ghost use Rattle.std.specs.Prelude.{None};
 ghost use Rattle.fcg_bytes.specs.Objects.{aside_of_none};
 
 use crate::{Status, run};
-use fcg_bytes::{Failed, MemorySink, MemorySource, Sink};
+use fcg_bytes::{Failed, MemoryFiles, MemorySink, MemorySource, Sink};
 use fcg_views::NoMemory;
 use std::alloc::{AllocError, Global};
 use std::test::Fail;
 
 // The bundle of the smallest class file, an interface `I`.
-const SMALLEST: [u8; 76] = [
+pub const SMALLEST: [u8; 76] = [
     0x46, 0x43, 0x47, 0x42, 0x00, 0x01, 0x00, 0x00, 0x00, 0x01, 0x00, 0x07, 0x49, 0x2e, 0x63, 0x6c,
     0x61, 0x73, 0x73, 0x00, 0x00, 0x00, 0x35, 0xca, 0xfe, 0xba, 0xbe, 0x00, 0x00, 0x00, 0x41, 0x00,
     0x05, 0x01, 0x00, 0x01, 0x49, 0x07, 0x00, 0x01, 0x01, 0x00, 0x10, 0x6a, 0x61, 0x76, 0x61, 0x2f,
@@ -186,7 +186,15 @@ fn run_over(alloc: Global, line: &str, bytes: &[u8], fail: &[u64]) -> Result<Out
     let mut input = MemorySource::new(bytes.to_vec(alloc)?, 10, fail.to_vec(alloc)?);
     let mut output = MemorySink::new(alloc, 1000, Vec::new(alloc))?;
     let mut errors = MemorySink::new(alloc, 1000, Vec::new(alloc))?;
-    let status = run(alloc, &words, &mut input, &mut output, &mut errors);
+    let mut files = MemoryFiles::new(Vec::new(alloc), Vec::new(alloc));
+    let status = run(
+        alloc,
+        &words,
+        &mut input,
+        &mut output,
+        &mut errors,
+        &mut files,
+    );
     Ok(Outcome {
         status,
         output,
@@ -266,6 +274,16 @@ fn prints_or_refuses(rt: HostRuntime) -> Result<(), Fail> {
         ("site", SMALLEST.as_slice(), Status::Words, "", "words\n"),
         ("list x", SMALLEST.as_slice(), Status::Words, "", "words\n"),
         ("sites x", SMALLEST.as_slice(), Status::Words, "", "words\n"),
+        ("pack", SMALLEST.as_slice(), Status::Words, "", "words\n"),
+        ("pack ", SMALLEST.as_slice(), Status::Words, "", "words\n"),
+        ("pack -d", SMALLEST.as_slice(), Status::Words, "", "words\n"),
+        (
+            "pack d e",
+            SMALLEST.as_slice(),
+            Status::Words,
+            "",
+            "words\n",
+        ),
     ];
     for (line, bytes, status, output, errors) in cases {
         let outcome = run_over(rt.alloc(), line, bytes, &[])?;
@@ -463,7 +481,15 @@ fn a_write_fails(rt: HostRuntime) -> Result<(), Fail> {
             faults: 0,
         };
         let mut errors = MemorySink::new(rt.alloc(), 0, Vec::new(rt.alloc()))?;
-        let status = run(rt.alloc(), &words, &mut input, &mut output, &mut errors);
+        let mut files = MemoryFiles::new(Vec::new(rt.alloc()), Vec::new(rt.alloc()));
+        let status = run(
+            rt.alloc(),
+            &words,
+            &mut input,
+            &mut output,
+            &mut errors,
+            &mut files,
+        );
         assert_eq!(rt; status, Status::WriteFailed, "{line}");
         assert_eq!(rt; output.bytes.as_slice(), written.as_bytes(), "{line}");
         assert_eq!(rt; errors.bytes(), b"".as_slice(), "{line}");
@@ -479,7 +505,15 @@ fn above_the_limit(rt: HostRuntime) -> Result<(), Fail> {
         let mut input = MemorySource::new(bytes, 1_000_000, Vec::new(rt.alloc()));
         let mut output = MemorySink::new(rt.alloc(), 100, Vec::new(rt.alloc()))?;
         let mut errors = MemorySink::new(rt.alloc(), 100, Vec::new(rt.alloc()))?;
-        let status = run(rt.alloc(), &words, &mut input, &mut output, &mut errors);
+        let mut files = MemoryFiles::new(Vec::new(rt.alloc()), Vec::new(rt.alloc()));
+        let status = run(
+            rt.alloc(),
+            &words,
+            &mut input,
+            &mut output,
+            &mut errors,
+            &mut files,
+        );
         assert_eq!(rt; status, Status::Refused, "{line}");
         assert_eq!(rt;
             errors.bytes(),

@@ -1,16 +1,16 @@
 use Rattle.std.proofs.Common.{List, ℕ, length, ap, subst, arith}
 use Rattle.std.proofs.lemmas.Result.{err_from_is_err_and}
-use Rattle.std.specs.Prelude.{Some, Err}
+use Rattle.std.specs.Prelude.{Err}
 use Rattle.fcg_top.specs.Answer.{IsMeant}
 use Rattle.fcg_top.specs.Stopped.{stop_of_bundle}
 use Rattle.fcg_top.proofs.Meanings.{read_to_end, refused_means}
-use Rattle.fcg_top.proofs.command.answer_input.Goals as goal
+use Rattle.fcg_top.proofs.command.list_input.Goals as goal
 
 pub returns-in_err-views-clause-means : goal.returns-in_err-views-clause-means
 returns-in_err-views-clause-means g c =
     let p = err_from_is_err_and c.from_residual-in_err-views.result c.from_residual-in_err-views.ensures.1 in
     let short = c.in_ok-bytes.ensures.within in
     let same = c.as_slice.ensures in
-    let meant = refused_means c.args.command c.as_slice.result.now c.in_err-views.field-0.0 (omega (arith, ap length same)) c.in_err-views.ensures.jar c.in_err-views.ensures.exact c.in_err-views.ensures.only in
-    let P : List ℕ → Type 0 = λ (bytes : List ℕ). IsMeant (Some c.args.command) bytes (Err (stop_of_bundle c.in_err-views.field-0.0)) in
+    let meant = refused_means c.args.listing c.as_slice.result.now c.in_err-views.field-0.0 (omega (arith, ap length same)) c.in_err-views.ensures.jar c.in_err-views.ensures.exact c.in_err-views.ensures.only in
+    let P : List ℕ → Type 0 = λ (bytes : List ℕ). IsMeant c.args.listing bytes (Err (stop_of_bundle c.in_err-views.field-0.0)) in
     rw (p.1, p.2) (read_to_end P (g.S.Source.left c.args.input.now) (g.S.Source.left c.read_all.new.source) c.in_ok-bytes.bytes c.in_ok-bytes.ensures.ok c.in_ok-bytes.ensures.end (subst P same meant))

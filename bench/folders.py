@@ -17,7 +17,7 @@ import time
 import zipfile
 
 from measure import FCG, LIST, bind_memory, ready
-from real_input import JAR_FOLDERS, decode, jars
+from real_input import JAR_FOLDERS, jars, unescape
 
 LIMIT = 67108864
 
@@ -63,7 +63,7 @@ def named(chosen):
 
 
 def listed(text):
-    return [decode(line[len("type "):]) for line in text.decode().splitlines() if line.startswith("type ")]
+    return [unescape(line[len(b"type "):]) for line in text.split(b"\n") if line.startswith(b"type ")]
 
 
 def check_jar(jar, totals):

@@ -6,7 +6,7 @@ use Rattle.fcg_views.specs.declared.view.HandleKind.TheVariants.{K5, K6, K7, K8,
 use Rattle.fcg_views.specs.declared.view.Method.{Method}
 use Rattle.fcg_views.specs.declared.view.Site.{Site}
 use Rattle.fcg_views.specs.declared.view.View.{View}
-use Rattle.fcg_views.specs.Analysis.Says.{Placed}
+use Rattle.fcg_views.specs.Analysis.Says.{Placed, object_name}
 use Rattle.fcg_analysis.specs.Short.{call, interface_call, method, open_method, abstract_method, static_method, type_with, class_of, class_below, class_with, abstract_class, interface_of, object_of, release}
 use Rattle.fcg_analysis.specs.Sets.{self_call}
 
@@ -177,6 +177,13 @@ array_sites = release "g:a:1" (
     ∷ [])
     ∷ [])
 
+-- an abstract method of Object, called on an array
+abbrev pub array_abstract : List Placed
+array_abstract = release "g:a:1" (
+    type_with 0x0421 None "java/lang/Object" [] (abstract_m ∷ [])
+    ∷ caller (call Virtual "[I" "m" "()V" ∷ [])
+    ∷ [])
+
 -- a class that is named as an array: it receives calls, and no reference names it
 abbrev pub array_named : List Placed
 array_named = release "g:a:1" (
@@ -275,6 +282,19 @@ private_with_receiver = private_without_receiver ++ release "g:b:1" (class_below
 abbrev pub interface_alone : List Placed
 interface_alone = release "g:a:1" (
     interface_of "p/I" [] (m ∷ []) ∷ caller (interface_call Interface "p/I" "m" "()V" ∷ []) ∷ [])
+
+-- an interface that isn't marked as abstract, and that no class implements
+abbrev pub interface_not_abstract : List Placed
+interface_not_abstract = release "g:a:1" (
+    type_with 0x0201 (Some object_name) "p/I" [] (m ∷ []) ∷ caller (interface_call Interface "p/I" "m" "()V" ∷ []) ∷ [])
+
+-- a static method of a class, beside a default
+abbrev pub static_beside_default : List Placed
+static_beside_default = release "g:a:1" (
+    interface_of "p/I" [] (m ∷ [])
+    ∷ class_with "java/lang/Object" ("p/I" ∷ []) "p/A" (static_m ∷ [])
+    ∷ caller virtual_m
+    ∷ [])
 
 -- ---- Special calls. p/C is the class whose method k calls.
 
@@ -389,6 +409,18 @@ handle_kinds = release "g:a:1" (
     ∷ call (Handle K7) "p/A" "w" "()V"
     ∷ call (Handle K8) "p/A" "<init>" "()V"
     ∷ interface_call (Handle K9) "p/I" "i" "()V"
+    ∷ [])
+    ∷ [])
+
+-- handles of methods that a class below has too
+abbrev pub handle_receivers : List Placed
+handle_receivers = release "g:a:1" (
+    class_of "p/A" (open_method "<init>" "()V" ∷ open_method "v" "()V" ∷ open_method "w" "()V" ∷ [])
+    ∷ class_below "p/A" "p/B" (open_method "<init>" "()V" ∷ open_method "v" "()V" ∷ open_method "w" "()V" ∷ [])
+    ∷ caller (
+    call (Handle K5) "p/A" "v" "()V"
+    ∷ call (Handle K7) "p/A" "w" "()V"
+    ∷ call (Handle K8) "p/A" "<init>" "()V"
     ∷ [])
     ∷ [])
 

@@ -9,7 +9,7 @@ ghost use Rattle.fcg_views.specs.Analysis.Resolution.{KindMismatch, NoSuchMethod
 ghost use Rattle.fcg_views.specs.Analysis.Edges.{IsNoCall, IsMethod, IsPhantom, IsFailed, edges, statuses, failed};
 ghost use Rattle.fcg_views.specs.Analysis.Reach.{rows};
 ghost use Rattle.fcg_analysis.specs.Short.{names, names_of_types, names_below, chain_names, overrides, number_in, method_ref, interface_ref};
-ghost use Rattle.fcg_analysis.specs.Choices.{circle_before_sound, object_interface, release_twice, named_twice, object_at_the_end, superclass_interface, interface_superclass, absent_superclass, object_names_interface, object_absent, first_not_specific, interface_and_object, hidden_by_static, hidden_in_interface, array_sites, array_named, static_between, handed_on, no_package, unrelated, interface_not_between, past_private, abstract_before_default, package_private_default, private_without_receiver, private_with_receiver, interface_alone, object_below_absent, special_past_absent, special_of_object, special_absent_superclass, special_abstract, special_static, special_private, special_of_static, inherited_init, special_interface, special_public_object, special_protected_object, handle_kinds, failures};
+ghost use Rattle.fcg_analysis.specs.Choices.{circle_before_sound, object_interface, release_twice, named_twice, object_at_the_end, superclass_interface, interface_superclass, absent_superclass, object_names_interface, object_absent, first_not_specific, interface_and_object, hidden_by_static, hidden_in_interface, array_sites, array_abstract, array_named, static_between, handed_on, no_package, unrelated, interface_not_between, past_private, abstract_before_default, package_private_default, private_without_receiver, private_with_receiver, interface_alone, interface_not_abstract, static_beside_default, object_below_absent, special_past_absent, special_of_object, special_absent_superclass, special_abstract, special_static, special_private, special_of_static, inherited_init, special_interface, special_public_object, special_protected_object, handle_kinds, handle_receivers, failures};
 
 /// A circular winner drops the later views of its name, though it counts as absent itself.
 pub fn circle_before_sound_case()
@@ -111,6 +111,12 @@ pub fn array_sites_case()
     ensures statuses { statuses (known array_sites) ≡ IsMethod ∷ IsMethod ∷ IsMethod ∷ IsMethod ∷ IsNoCall ∷ IsNoCall ∷ IsFailed KindMismatch ∷ IsFailed KindMismatch ∷ [] }
 {}
 
+/// There is no edge to an abstract method of Object from a site with an array owner either.
+pub fn array_abstract_case()
+    ensures edges { edges (known array_abstract) ≡ [] }
+    ensures statuses { statuses (known array_abstract) ≡ IsMethod ∷ [] }
+{}
+
 /// A class that is named as an array receives calls, but no reference resolves to it.
 pub fn array_named_case()
     ensures edges { edges (known array_named) ≡ (3, 1) ∷ [] }
@@ -172,6 +178,18 @@ pub fn interface_alone_case()
     ensures edges { edges (known interface_alone) ≡ [] }
 {}
 
+/// No interface is a receiver, whether it is marked as abstract or not.
+pub fn interface_not_abstract_case()
+    ensures edges { edges (known interface_not_abstract) ≡ [] }
+    ensures statuses { statuses (known interface_not_abstract) ≡ IsMethod ∷ [] }
+{}
+
+/// Where the resolved method is static nothing is selected, a default neither.
+pub fn static_beside_default_case()
+    ensures edges { edges (known static_beside_default) ≡ [] }
+    ensures statuses { statuses (known static_beside_default) ≡ IsMethod ∷ [] }
+{}
+
 /// The superclass name of Object's view isn't used: it makes no gap, and no special call starts by it.
 pub fn object_below_absent_case()
     ensures gaps { map (has_gap (known object_below_absent)) (known object_below_absent) ≡ false ∷ false ∷ [] }
@@ -218,6 +236,12 @@ pub fn special_interface_case()
 pub fn handle_kinds_case()
     ensures edges { edges (known handle_kinds) ≡ (6, 1) ∷ (6, 2) ∷ (6, 3) ∷ (6, 4) ∷ (6, 5) ∷ [] }
     ensures statuses { statuses (known handle_kinds) ≡ IsMethod ∷ IsMethod ∷ IsMethod ∷ IsMethod ∷ IsMethod ∷ [] }
+{}
+
+/// A handle of kind 5 leads to the methods of the classes below too; one of kind 7 or 8 to the named class's alone.
+pub fn handle_receivers_case()
+    ensures edges { edges (known handle_receivers) ≡ (6, 0) ∷ (6, 1) ∷ (6, 2) ∷ (6, 4) ∷ [] }
+    ensures statuses { statuses (known handle_receivers) ≡ IsMethod ∷ IsMethod ∷ IsMethod ∷ [] }
 {}
 
 /// Failed sites are counted, not references, and of both causes.

@@ -16,15 +16,16 @@ pub use cases::{
     two_defaults_case,
 };
 pub use choices::{
-    absent_superclass_case, abstract_before_default_case, array_named_case, array_sites_case,
-    circle_before_sound_case, failures_case, first_not_specific_case, handed_on_case,
-    handle_kinds_case, hidden_by_static_case, hidden_in_interface_case, inherited_init_case,
-    interface_alone_case, interface_and_object_case, interface_not_between_case,
-    interface_superclass_case, named_twice_case, no_edge_case, no_package_case, object_absent_case,
-    object_at_the_end_case, object_below_absent_case, object_interface_case,
-    object_names_interface_case, package_private_default_case, past_private_case,
-    private_receivers_case, release_twice_case, special_absent_superclass_case,
-    special_interface_case, special_of_object_case, special_search_case, static_between_case,
+    absent_superclass_case, abstract_before_default_case, array_abstract_case, array_named_case,
+    array_sites_case, circle_before_sound_case, failures_case, first_not_specific_case,
+    handed_on_case, handle_kinds_case, handle_receivers_case, hidden_by_static_case,
+    hidden_in_interface_case, inherited_init_case, interface_alone_case, interface_and_object_case,
+    interface_not_abstract_case, interface_not_between_case, interface_superclass_case,
+    named_twice_case, no_edge_case, no_package_case, object_absent_case, object_at_the_end_case,
+    object_below_absent_case, object_interface_case, object_names_interface_case,
+    package_private_default_case, past_private_case, private_receivers_case, release_twice_case,
+    special_absent_superclass_case, special_interface_case, special_of_object_case,
+    special_search_case, static_beside_default_case, static_between_case,
     superclass_interface_case, unrelated_case,
 };
 pub use laws::{

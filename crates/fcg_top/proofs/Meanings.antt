@@ -11,7 +11,8 @@ use Rattle.fcg_class.specs.declared.bundle.BundleFault.{BundleFault}
 use Rattle.fcg_class.specs.declared.bundle.BundleFault.TheVariants as faults
 use Rattle.fcg_class.specs.Bundle.{Content, is_jar, bundle_of}
 use Rattle.fcg_top.specs.declared.words.Listing.{Listing}
-use Rattle.fcg_top.specs.Answer.{bundle_limit, IsMeant}
+use Rattle.fcg_class.specs.Pack.{bundle_limit}
+use Rattle.fcg_top.specs.Answer.{IsMeant}
 use Rattle.fcg_top.specs.Stopped.{stop_of_bundle}
 
 -- what holds of all bytes that were read holds of those that were left

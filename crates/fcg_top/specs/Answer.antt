@@ -7,7 +7,7 @@ use Rattle.fcg_views.specs.declared.view.View.{View}
 use Rattle.fcg_class.specs.declared.bundle.BundleFault.{BundleFault}
 use Rattle.fcg_class.specs.declared.bundle.BundleFault.TheVariants as faults
 use Rattle.fcg_class.specs.Bundle.{Content, Entry, bundle, is_jar, bundle_of}
-use Rattle.fcg_class.specs.Pack.{ArePacked, pack_of}
+use Rattle.fcg_class.specs.Pack.{ArePacked, bundle_limit, pack_of}
 use Rattle.fcg_class.specs.declared.packing.PackRefusal.{PackRefusal}
 use Rattle.fcg_class.specs.declared.packing.PackRefusal.TheVariants as packs
 use Rattle.fcg_bytes.specs.Files.{File}
@@ -22,10 +22,6 @@ use Rattle.fcg_top.specs.declared.status.Stop.TheVariants as stops
 use Rattle.fcg_top.specs.Text.{line, list_text, sites_text}
 use Rattle.fcg_top.specs.Refused.{body_of}
 use Rattle.fcg_top.specs.Words.{Asked, Prints, Packs}
-
--- the length of the longest bundle
-abbrev pub bundle_limit : ℕ
-bundle_limit = 67108864
 
 -- what a listing prints of a bundle's views
 abbrev pub text_of : Listing → List View → List ℕ

@@ -1,17 +1,9 @@
--- What is known of a pool's texts: the names that were made of them, and the descriptors that were found.
-use Rattle.std.specs.Prelude.{◌≡◌, ℕ, List, Bool, true, false, [], slice_index_or, Option, Some, None, Ok}
+-- What is known of a pool's texts: the file's bytes, of which names are made, and the descriptors that were found.
+use Rattle.std.specs.Prelude.{◌≡◌, ℕ, List, Bool, true, false, slice_index_or, Ok}
 use Rattle.fcg_views.specs.DescSteps.{is_descriptor, is_field_descriptor}
 use Rattle.fcg_views.specs.Breaks.Pool.{Entries, text_of}
 use Rattle.fcg_class.specs.declared.names.DescKind.{DescKind}
 use Rattle.fcg_class.specs.declared.names.DescKind.TheVariants.{Field, Method}
-
--- a name that was made is the text of the Utf8 at its index
-abbrev pub AreNames : Entries → List (Option (List ℕ)) → Type 0
-AreNames pool made = (i : ℕ) (name : List ℕ) → slice_index_or made i None ≡ Some name → text_of pool i ≡ Ok name
-
--- none was made yet
-abbrev pub AllWithoutName : List (Option (List ℕ)) → Type 0
-AllWithoutName made = (i : ℕ) → slice_index_or made i None ≡ None
 
 -- whether a text is a descriptor of a kind
 abbrev pub is_of_kind : DescKind → List ℕ → Bool
@@ -34,8 +26,7 @@ pub record Descs : Type 0 where
 abbrev pub descs : Entries → DescKind → Descs
 descs pool kind = record { pool = pool; kind = kind }
 
-pub record IsKnown (pool : Entries) (made : List (Option (List ℕ))) (empty : List ℕ) (fields methods : Descs) : Type 0 where
-  pub names_are : AreNames pool made
-  pub empty_is : empty ≡ []
+pub record IsKnown (pool : Entries) (file : List ℕ) (fields methods : Descs) : Type 0 where
+  pub file_is : file ≡ pool.bytes
   pub fields_are : fields ≡ descs pool Field
   pub methods_are : methods ≡ descs pool Method

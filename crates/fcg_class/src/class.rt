@@ -60,27 +60,19 @@ fn read_pool(
 }
 
 // The name of the type whose index stands at a place.
-fn read_type(
-    alloc: Global,
-    names: &mut ClassNames<'_>,
-    at: usize,
-) -> Result<Name, ReadError<ClassFault>>
+fn read_type(names: &mut ClassNames<'_>, at: usize) -> Result<Name, ReadError<ClassFault>>
     requires { at ≤ length names.old.bytes }
     ensures value { Gives (λ name. name) result (type_at names.old at) }
     ensures inside { OnOk result (at + 2 ≤ length names.old.bytes) }
     ensures same { names.new ≡ names.old }
 {
     let text = find_type(names.pool(), at)?;
-    Ok(names.name(alloc, &text)?)
+    Ok(names.name(&text)?)
 }
 
 // The name of the superclass, where there is one.
 #[tactic(auto, unfolding(fcg_views::specs::Breaks::Class::super_at))]
-fn read_super(
-    alloc: Global,
-    names: &mut ClassNames<'_>,
-    at: usize,
-) -> Result<Option<Name>, ReadError<ClassFault>>
+fn read_super(names: &mut ClassNames<'_>, at: usize) -> Result<Option<Name>, ReadError<ClassFault>>
     requires { at ≤ length names.old.bytes }
     ensures value { Gives (λ name. name) result (super_at names.old at) }
     ensures inside { OnOk result (at + 2 ≤ length names.old.bytes) }
@@ -90,12 +82,11 @@ fn read_super(
     if index == 0 {
         return Ok(None);
     }
-    Ok(Some(read_type(alloc, names, at)?))
+    Ok(Some(read_type(names, at)?))
 }
 
 #[tactic(auto, unfolding(fcg_views::specs::Breaks::Class::interface_at))]
 fn read_interface(
-    alloc: Global,
     names: &mut ClassNames<'_>,
     at: usize,
 ) -> Result<(Name, usize), ReadError<ClassFault>>
@@ -106,7 +97,7 @@ fn read_interface(
 {
     let bytes = names.pool().bytes();
     prove!(at <= bytes.len());
-    let name = read_type(alloc, names, at)?;
+    let name = read_type(names, at)?;
     Ok((name, at + 2))
 }
 
@@ -125,7 +116,7 @@ fn read_interface_rows(
     let mut interfaces = Vec::new(alloc);
     let mut place = at;
     for _ in 0..count {
-        let (name, after) = read_interface(alloc, names, place)?;
+        let (name, after) = read_interface(names, place)?;
         interfaces.push(name)?;
         place = after;
     }
@@ -256,8 +247,8 @@ fn read_body(
     let bytes = names.pool().bytes();
     prove!(at <= bytes.len());
     let flags = read_u2(bytes, at, 0)?;
-    let name = read_type(alloc, names, at + 2)?;
-    let superclass = read_super(alloc, names, at + 4)?;
+    let name = read_type(names, at + 2)?;
+    let superclass = read_super(names, at + 4)?;
     let (interfaces, after) = read_interfaces(alloc, names, at + 6)?;
     let (fields, methods) = read_members(alloc, names, after)?;
     Ok(View {

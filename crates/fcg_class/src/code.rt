@@ -138,7 +138,7 @@ fn read_found(
     while pc < code.bytes.len() {
         let instruction = read_instruction(code, pc as u16)?;
         let before = count + sites.len();
-        let found = read_site_or_call(alloc, names, code, pc as u16, instruction, before)?;
+        let found = read_site_or_call(names, code, pc as u16, instruction, before)?;
         push_found(&mut sites, &mut calls, found)?;
         pc = instruction.next as usize;
     }

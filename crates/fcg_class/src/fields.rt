@@ -14,17 +14,13 @@ use fcg_views::{ClassFault, Field, Fields, NoMemory};
 use std::alloc::Global;
 
 // The field that a row declares, with names of its own.
-fn make_field(
-    alloc: Global,
-    names: &mut ClassNames<'_>,
-    declared: &Declared<'_>,
-) -> Result<Field, NoMemory>
+fn make_field(names: &mut ClassNames<'_>, declared: &Declared<'_>) -> Result<Field, NoMemory>
     requires { AreTextsOf names.old declared.now }
     ensures ok { IfOk result (λ field. field ≡ field_of (declared_of declared.now)) }
     ensures same { names.new ≡ names.old }
 {
-    let name = names.name(alloc, &declared.name)?;
-    let desc = names.name(alloc, &declared.desc)?;
+    let name = names.name(&declared.name)?;
+    let desc = names.name(&declared.desc)?;
     Ok(Field {
         name,
         desc,
@@ -35,7 +31,6 @@ fn make_field(
 // The field that stands at a place, and the place after it.
 #[tactic(auto, unfolding(fcg_views::specs::Breaks::Members::field_at))]
 fn read_field(
-    alloc: Global,
     names: &mut ClassNames<'_>,
     at: usize,
 ) -> Result<(Field, usize), ReadError<ClassFault>>
@@ -49,7 +44,7 @@ fn read_field(
     prove!(at <= bytes.len());
     let declared = find_declared(names, DescKind::Field, at)?;
     let after = pass_attributes(pool, bytes, at + 6)?;
-    let field = make_field(alloc, names, &declared)?;
+    let field = make_field(names, &declared)?;
     Ok((field, after))
 }
 
@@ -68,7 +63,7 @@ fn read_field_rows(
     let mut fields = Vec::new(alloc);
     let mut place = at;
     for _ in 0..count {
-        let (field, after) = read_field(alloc, names, place)?;
+        let (field, after) = read_field(names, place)?;
         fields.push(field)?;
         place = after;
     }

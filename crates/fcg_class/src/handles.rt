@@ -40,7 +40,6 @@ fn handle_form(kind: u8) -> Option<SiteForm>
 // The site of an index of a bootstrap method, or `None` where the constant there is no method handle that calls a
 // method. `count` sites of the class are before it.
 fn read_index_site(
-    alloc: Global,
     names: &mut ClassNames<'_>,
     at: usize,
     pc: u16,
@@ -58,14 +57,13 @@ fn read_index_site(
     let Some(form) = handle_form(kind) else {
         return Ok(None);
     };
-    let site = read_site_of(alloc, names, form, at, pc, named, count)?;
+    let site = read_site_of(names, form, at, pc, named, count)?;
     Ok(Some(site))
 }
 
 // Adds the site of an index of a bootstrap method, where it has one. `count` sites of the class are before those of the
 // list.
 fn push_index_site(
-    alloc: Global,
     names: &mut ClassNames<'_>,
     at: usize,
     pc: u16,
@@ -79,7 +77,7 @@ fn push_index_site(
     ensures same { names.new ≡ names.old }
 {
     let before = count + sites.len();
-    if let Some(site) = read_index_site(alloc, names, at, pc, index, before)? {
+    if let Some(site) = read_index_site(names, at, pc, index, before)? {
         sites.push(site)?;
     }
     Ok(())
@@ -103,9 +101,9 @@ fn read_row_sites(
 {
     at_index(at, row.handle(), names.pool().handle_pair(row.handle()))?;
     let mut sites = Vec::new(alloc);
-    push_index_site(alloc, names, at, pc, row.handle(), count, &mut sites)?;
+    push_index_site(names, at, pc, row.handle(), count, &mut sites)?;
     for index in row.arguments() {
-        push_index_site(alloc, names, at, pc, *index, count, &mut sites)?;
+        push_index_site(names, at, pc, *index, count, &mut sites)?;
     }
     Ok(sites)
 }

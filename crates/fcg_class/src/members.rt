@@ -120,8 +120,8 @@ fn make_method(
     ensures ok { IfOk result (λ method. method ≡ unfinished (declared_of declared.now) code) }
     ensures same { names.new ≡ names.old }
 {
-    let name = names.name(alloc, &declared.name)?;
-    let desc = names.name(alloc, &declared.desc)?;
+    let name = names.name(&declared.name)?;
+    let desc = names.name(&declared.desc)?;
     let (sites, calls) = parts_or_none(alloc, code);
     let method = Method {
         name,

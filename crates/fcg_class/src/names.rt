@@ -1,7 +1,7 @@
-//! The texts of a class file: the name of each is made once, and a descriptor is read once.
-ghost use Rattle.std.specs.Prelude.{◌≡◌, Ok, IfOk, None, [], option_copied, slice_index_or};
+//! The texts of a class file: the names of all share one copy of its bytes, and a descriptor is read once.
+ghost use Rattle.std.specs.Prelude.{◌≡◌, Ok, IfOk, []};
 ghost use Rattle.fcg_views.specs.Breaks.Pool.{text_of};
-ghost use Rattle.fcg_class.specs.Names.{AllWithoutName, AllUntyped, is_of_kind, descs};
+ghost use Rattle.fcg_class.specs.Names.{AllUntyped, is_of_kind, descs};
 
 use crate::text::Text;
 use fcg_pool::Pool;
@@ -18,14 +18,13 @@ pub enum DescKind {
     Method,
 }
 
-/// The constant pool of a class file, with what is known of its texts: the names that were made of them, one a Utf8
-/// however often it is used, and which were found to be field descriptors and method descriptors.
+/// The constant pool of a class file, with what its texts are made into: names, which share one copy of the file's
+/// bytes, and what was found of them, which are field descriptors and which are method descriptors.
 #[derive(Drop)]
 pub struct ClassNames<'a> {
     pool: &'a Pool<'a>,
-    // by the index of the Utf8
-    made: Vec<Option<Name>>,
-    empty: Name,
+    // the bytes of the file, of which each name is a part
+    file: Name,
     fields: FoundDescs<'a>,
     methods: FoundDescs<'a>,
 }
@@ -38,22 +37,20 @@ impl<'a> Model for ClassNames<'a> {
 
     ghost view = { λ n. n.pool.now };
 
-    ghost invariant = { λ n. IsKnown n.pool.now n.made.items n.empty n.fields n.methods };
+    ghost invariant = { λ n. IsKnown n.pool.now n.file n.fields n.methods };
 }
 
 impl<'a> ClassNames<'a> {
-    /// No name is made yet, and no descriptor read. It takes memory for each index of the pool.
+    /// No descriptor is read yet. It takes memory for the file's bytes and for each index of the pool.
     pub fn new(alloc: Global, pool: &'a Pool<'a>) -> Result<ClassNames<'a>, NoMemory>
         ensures { IfOk result (λ names. names ≡ pool.now) }
     {
-        let made = unmade(alloc, pool.len() + 1)?;
-        let empty = Name::from_slice(alloc, &[])?;
+        let file = Name::from_slice(alloc, pool.bytes())?;
         let fields = FoundDescs::new(alloc, pool, DescKind::Field)?;
         let methods = FoundDescs::new(alloc, pool, DescKind::Method)?;
         Ok(ClassNames {
             pool,
-            made,
-            empty,
+            file,
             fields,
             methods,
         })
@@ -70,24 +67,18 @@ impl<'a> ClassNames<'a> {
     pub fn empty_name(&self) -> Result<Name, AllocError>
         ensures { IfOk result (λ name. name ≡ []) }
     {
-        self.empty.clone()
+        self.file.part(0, 0)
     }
 
-    /// The name of a text.
-    pub fn name(&mut self, alloc: Global, text: &Text<'_>) -> Result<Name, NoMemory>
-        requires { text_of self.old text.now.index ≡ Ok text.now.bytes.now }
-        ensures ok { IfOk result (λ name. name ≡ text.now.bytes.now) }
-        ensures same { self.new ≡ self.old }
+    /// The name of a text. It takes constant time.
+    pub fn name(&self, text: &Text<'_>) -> Result<Name, AllocError>
+        requires { text_of self.now text.now.index ≡ Ok text.now.bytes.now }
+        ensures { IfOk result (λ name. name ≡ text.now.bytes.now) }
     {
-        if let Some(name) = find_made(&self.made, text.index) {
-            return Ok(name.clone()?);
+        match self.pool.utf8_place(text.index) {
+            Ok((begin, len)) => self.file.part(begin, len),
+            Err(_) => unreachable!(),
         }
-        let name = Name::from_slice(alloc, text.bytes)?;
-        let copy = name.clone()?;
-        if let Some(slot) = self.made.get_mut(usize::from(text.index)) {
-            *slot = Some(copy);
-        }
-        Ok(name)
     }
 
     /// Whether a text is a descriptor of a kind. One that is is read once, however often it is asked for.
@@ -159,30 +150,9 @@ fn is_of_kind(kind: DescKind, bytes: &[u8]) -> bool
     }
 }
 
-// So many places without a name.
-fn unmade(alloc: Global, count: usize) -> Result<Vec<Option<Name>>, AllocError>
-    ensures { IfOk result (λ made. AllWithoutName made.items) }
-{
-    let mut made = Vec::with_capacity(alloc, count)?;
-    for _ in 0..count {
-        made.push(None)?;
-    }
-    Ok(made)
-}
-
 // So many texts that weren't found to be descriptors.
 fn untyped(alloc: Global, count: usize) -> Result<Vec<bool>, AllocError>
     ensures { IfOk result (λ typed. AllUntyped typed.items) }
 {
     Ok(vec![in alloc; false; count]?)
-}
-
-// The name that was made at an index.
-fn find_made(made: &[Option<Name>], index: u16) -> Option<&Name>
-    ensures { option_copied result ≡ slice_index_or made.now index None }
-{
-    match made.get(usize::from(index)) {
-        Some(Some(name)) => Some(name),
-        _ => None,
-    }
 }

@@ -17,7 +17,6 @@ use fcg_pool::{Instruction, RefTexts, is_one_of};
 use fcg_views::{
     ClassFault, ClassRule, DynamicCall, NoMemory, Ref, Site, SiteKind, at_index, fault_at,
 };
-use std::alloc::Global;
 
 /// How many sites a class may have.
 pub const MOST_SITES: usize = 1_000_000;
@@ -110,11 +109,7 @@ fn find_member<'a>(
 }
 
 // A member of a type, with names of its own.
-fn make_ref(
-    alloc: Global,
-    names: &mut ClassNames<'_>,
-    member: &RefTexts<'_>,
-) -> Result<Ref, NoMemory>
+fn make_ref(names: &mut ClassNames<'_>, member: &RefTexts<'_>) -> Result<Ref, NoMemory>
     requires { AreRefTexts names.old member.now }
     ensures ok { IfOk result (λ target. target ≡ ref_of member.now) }
     ensures same { names.new ≡ names.old }
@@ -132,16 +127,15 @@ fn make_ref(
         bytes: member.span.desc,
     };
     Ok(Ref {
-        owner: names.name(alloc, &owner)?,
+        owner: names.name(&owner)?,
         owner_is_interface_ref: member.span.tag == 11,
-        name: names.name(alloc, &name)?,
-        desc: names.name(alloc, &desc)?,
+        name: names.name(&name)?,
+        desc: names.name(&desc)?,
     })
 }
 
 // The member of a type that an index names, by a constant of one of these tags and with a descriptor of a kind.
 fn read_member(
-    alloc: Global,
     names: &mut ClassNames<'_>,
     kind: DescKind,
     tags: &[u8],
@@ -152,12 +146,11 @@ fn read_member(
     ensures same { names.new ≡ names.old }
 {
     let member = find_member(names, kind, tags, at, index)?;
-    Ok(make_ref(alloc, names, &member)?)
+    Ok(make_ref(names, &member)?)
 }
 
 // The type that an index names, without a member.
 fn read_type_ref(
-    alloc: Global,
     names: &mut ClassNames<'_>,
     at: usize,
     index: u16,
@@ -167,7 +160,7 @@ fn read_type_ref(
 {
     let owner = find_type_of(names.pool(), at, index)?;
     Ok(Ref {
-        owner: names.name(alloc, &owner)?,
+        owner: names.name(&owner)?,
         owner_is_interface_ref: false,
         name: names.empty_name()?,
         desc: names.empty_name()?,
@@ -176,7 +169,6 @@ fn read_type_ref(
 
 // What a site names by an index. A fault is at the given place of the file.
 fn read_target(
-    alloc: Global,
     names: &mut ClassNames<'_>,
     target: Target,
     at: usize,
@@ -186,9 +178,9 @@ fn read_target(
     ensures same { names.new ≡ names.old }
 {
     match target {
-        Target::Method(tags) => read_member(alloc, names, DescKind::Method, tags, at, index),
-        Target::Field => read_member(alloc, names, DescKind::Field, &[9], at, index),
-        Target::Type => read_type_ref(alloc, names, at, index),
+        Target::Method(tags) => read_member(names, DescKind::Method, tags, at, index),
+        Target::Field => read_member(names, DescKind::Field, &[9], at, index),
+        Target::Type => read_type_ref(names, at, index),
     }
 }
 
@@ -202,7 +194,6 @@ fn read_target(
 /// Takes constant time, but where a Utf8 is needed for the first time: then its bytes are copied or read once.
 #[tactic(auto, unfolding(fcg_views::specs::Breaks::Code::site_of))]
 pub fn read_site_of(
-    alloc: Global,
     names: &mut ClassNames<'_>,
     form: SiteForm,
     at: usize,
@@ -213,7 +204,7 @@ pub fn read_site_of(
     ensures value { Gives (λ site. site) result (site_of names.old (form_in form) at pc index count) }
     ensures same { names.new ≡ names.old }
 {
-    let target = read_target(alloc, names, form.target, at, index)?;
+    let target = read_target(names, form.target, at, index)?;
     if count >= MOST_SITES {
         return Err(ReadError::Fault(fault_at(at, 0, ClassRule::ManySites)));
     }
@@ -231,7 +222,6 @@ pub fn read_site_of(
 /// names no InvokeDynamic.
 #[tactic(auto, unfolding(fcg_views::specs::Breaks::Code::found_at))]
 pub fn read_site_or_call(
-    alloc: Global,
     names: &mut ClassNames<'_>,
     code: CodeSpan<'_>,
     pc: u16,
@@ -254,6 +244,6 @@ pub fn read_site_or_call(
     let Some(form) = form_of(instruction.opcode) else {
         return Ok(SiteOrCall::Nothing);
     };
-    let site = read_site_of(alloc, names, form, at, pc, operand, count)?;
+    let site = read_site_of(names, form, at, pc, operand, count)?;
     Ok(SiteOrCall::Site(site))
 }

@@ -175,7 +175,7 @@ fn u2_in(bytes: &[u8], at: usize) -> u16
 }
 
 // So many bytes from a place on.
-fn part_in(bytes: &[u8], at: usize, n: usize) -> &[u8]
+pub fn part_in(bytes: &[u8], at: usize, n: usize) -> &[u8]
     requires { at + n ≤ length bytes.now }
     ensures { result.now ≡ part bytes.now at n }
 {
@@ -184,18 +184,21 @@ fn part_in(bytes: &[u8], at: usize, n: usize) -> &[u8]
     part
 }
 
-// The text of a constant of a shape, which is a Utf8.
+// Where the text of a constant of a shape begins, which is a Utf8, and how many bytes it has.
 #[tactic(auto, unfolding(crate::specs::Standing::shaped_in, crate::specs::Standing::ShapeLies))]
-fn shaped_text(bytes: &[u8], at: usize, tag: u8, shape: Option<Shape>) -> Result<&[u8], PoolRule>
+fn shaped_text(
+    bytes: &[u8],
+    at: usize,
+    tag: u8,
+    shape: Option<Shape>,
+) -> Result<(usize, usize), PoolRule>
     requires { ShapeLies bytes.now at (shape_seen shape) }
-    ensures { seen (λ text. text.now) result ≡ text_in (shaped_in bytes.now at tag (shape_seen shape)) }
+    ensures value { seen (λ x. part bytes.now x.0 x.1) result ≡ text_in (shaped_in bytes.now at tag (shape_seen shape)) }
+    ensures inside { IfOk result (λ x. x.0 + x.1 ≤ length bytes.now) }
 {
     match shape {
         None => unreachable!(),
-        Some(Shape::Text) => {
-            let len = usize::from(u2_in(bytes, at + 1));
-            Ok(part_in(bytes, at + 3, len))
-        }
+        Some(Shape::Text) => Ok((at + 3, usize::from(u2_in(bytes, at + 1)))),
         Some(Shape::Bytes(_)) => Err(PoolRule::WrongKind),
         Some(Shape::One) => Err(PoolRule::WrongKind),
         Some(Shape::Two) => Err(PoolRule::WrongKind),
@@ -203,11 +206,12 @@ fn shaped_text(bytes: &[u8], at: usize, tag: u8, shape: Option<Shape>) -> Result
     }
 }
 
-/// The text of the constant that stands at a place, which is a Utf8.
+/// Where the text of the constant begins that stands at a place, which is a Utf8, and how many bytes it has.
 #[tactic(auto, unfolding(crate::specs::Standing::constant_in))]
-pub fn text_at(bytes: &[u8], at: usize) -> Result<&[u8], PoolRule>
+pub fn find_text(bytes: &[u8], at: usize) -> Result<(usize, usize), PoolRule>
     requires { Lies bytes.now at }
-    ensures { seen (λ text. text.now) result ≡ text_in (constant_in bytes.now at) }
+    ensures value { seen (λ x. part bytes.now x.0 x.1) result ≡ text_in (constant_in bytes.now at) }
+    ensures inside { IfOk result (λ x. x.0 + x.1 ≤ length bytes.now) }
 {
     let tag = bytes[at];
     shaped_text(bytes, at, tag, shape_of(tag))

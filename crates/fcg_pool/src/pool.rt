@@ -1,10 +1,11 @@
 //! The constant pool of a class file (JVMS 4.4).
-ghost use Rattle.std.specs.Prelude.{◌≡◌, ◌≤◌, ◌<◌, ◌∷◌, [], length, IfOk};
+ghost use Rattle.std.specs.Prelude.{◌≡◌, ◌≤◌, ◌<◌, ◌+◌, ◌∷◌, [], length, IfOk};
+ghost use Rattle.fcg_grammar.specs.Number.{part};
 ghost use Rattle.fcg_grammar.specs.Reading.{seen, Gives};
 ghost use Rattle.fcg_grammar.specs.Rows.{each};
 
 use crate::check::check_slot;
-use crate::constant::{Entry, find_constant, find_tag, name_at, pair_at, text_at};
+use crate::constant::{Entry, find_constant, find_tag, find_text, name_at, pair_at, part_in};
 use crate::entries::read_slots;
 use crate::number::read_u2;
 use fcg_grammar::ReadError;
@@ -118,13 +119,22 @@ impl<'a> Pool<'a> {
         Ok(find_tag(self.bytes(), at))
     }
 
-    /// The bytes of the Utf8 at an index (JVMS 4.4.7), which are a slice of the file.
+    /// The place in the file of the first byte of the Utf8 at an index (JVMS 4.4.7), and how many bytes it has.
     #[tactic(auto, unfolding(fcg_views::specs::Breaks::Pool::text_of))]
+    pub fn utf8_place(&self, index: u16) -> Result<(usize, usize), PoolRule>
+        ensures value { seen (λ x. part self.now.bytes x.0 x.1) result ≡ text_of self.now index }
+        ensures inside { IfOk result (λ x. x.0 + x.1 ≤ length self.now.bytes) }
+    {
+        let at = self.place(index)?;
+        find_text(self.bytes(), at)
+    }
+
+    /// The bytes of the Utf8 at an index (JVMS 4.4.7), which are a slice of the file.
     pub fn utf8(&self, index: u16) -> Result<&'a [u8], PoolRule>
         ensures { seen (λ text. text.now) result ≡ text_of self.now index }
     {
-        let at = self.place(index)?;
-        text_at(self.bytes(), at)
+        let (begin, len) = self.utf8_place(index)?;
+        Ok(part_in(self.bytes(), begin, len))
     }
 
     /// The index of the name of the Class at an index (JVMS 4.4.1).

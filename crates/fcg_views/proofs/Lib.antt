@@ -10,3 +10,5 @@ pub mod PartLaws
 pub mod CoordinateLaws
 pub mod EscapeLaws
 pub mod UriLaws
+pub mod Parts
+pub mod Standing

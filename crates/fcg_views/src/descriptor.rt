@@ -1,5 +1,5 @@
 //! Field and method descriptors (JVMS 4.3.2, 4.3.3), read byte by byte.
-ghost use Rattle.std.specs.Prelude.{◌≡◌, ◌-◌, ◌^◌, ◌≤◌, ◌<◌, length, min, IfSome, IfOk, IfErr, IsOk, is_ok};
+ghost use Rattle.std.specs.Prelude.{◌≡◌, ◌-◌, ◌^◌, ◌≤◌, ◌<◌, ℕ, length, min, Some, IfSome, IfOk, IfErr, IsOk, IsTrue, is_ok};
 ghost use Rattle.fcg_views.specs.DescBounds.{IsSmall};
 ghost use Rattle.fcg_views.specs.Descriptor.{Spans, FaultAt, IsFieldDescriptor, FieldFaultAt};
 ghost use Rattle.fcg_views.specs.DescSteps.{is_letter, letter_units, taken, parameter_step, array_step, name_step, result_step, result_array_step, result_name_step, step, fault_at, ended, scan_from, told, descriptor_of, begins_with_void, field_descriptor_of, is_field_descriptor};
@@ -228,16 +228,30 @@ fn ended(state: DescState, at: usize) -> Result<DescSpan, DescFault>
     }
 }
 
-// The state that a text leads to from a first one, or the place of the first byte without a step.
+// Whether a byte goes on with the name of a class after another byte of it, so that the state stays as it is.
+fn stays(state: DescState, byte: u8) -> bool
+    ensures { IsTrue result → (at : ℕ) → step state at byte ≡ Some state }
+{
+    let is_in_name = matches!(
+        state,
+        DescState::Name(_, _, true) | DescState::ReturnedName(_, true)
+    );
+    is_in_name && byte != b';'
+}
+
+// The state that a text leads to from a first one, or the place of the first byte without a step. Most bytes are those
+// of names, which are passed over without one.
 fn scan_from(start: DescState, text: &[u8]) -> Result<DescState, usize>
     requires { IsSmall start }
     ensures { result ≡ scan_from 0 start text.now }
 {
     let mut state = start;
     for (at, byte) in text.iter().enumerate() {
-        match step(state, at, *byte) {
-            Some(next) => state = next,
-            None => return Err(at),
+        if !stays(state, *byte) {
+            match step(state, at, *byte) {
+                Some(next) => state = next,
+                None => return Err(at),
+            }
         }
     }
     Ok(state)

@@ -1,5 +1,6 @@
 //! Names as class files have them.
-ghost use Rattle.std.specs.Prelude.{◌≡◌, nat_eq, IfOk};
+ghost use Rattle.std.specs.Prelude.{◌≡◌, ◌≤◌, ◌+◌, length, nat_eq, IfOk};
+ghost use Rattle.fcg_grammar.specs.Number.{part};
 ghost use Rattle.std.proofs.Common.{rules};
 ghost use Rattle.std.specs.Cmp.{partial_order_from_own_ties};
 ghost use Rattle.std.specs.Cmp.Rules.{comparing, hashing};
@@ -12,29 +13,54 @@ use std::cmp::Ordering;
 use std::marker::Model;
 use std::sync::ArcSlice;
 
-/// The bytes of a name, which its copies share: a name is one allocation, and a copy makes none. Names are compared
-/// and ordered by their bytes.
+/// The bytes of a name. They are a part of a block, which the names that are made of this one share: neither a copy
+/// nor a part copies a byte, or makes an allocation. The block is kept as long as one of its names is. Names are
+/// compared and ordered by their bytes.
 #[derive(Drop)]
 pub struct Name {
-    bytes: ArcSlice<u8>,
+    block: ArcSlice<u8>,
+    // the first byte in the block
+    begin: u32,
+    len: u32,
 }
 
 impl Model for Name {
-    ghost use Rattle.std.specs.Prelude.{ℕ, List};
+    ghost use Rattle.std.specs.Prelude.{ℕ, List, ◌+◌, ◌^◌, ◌≤◌, ◌<◌, length};
     ghost use Rattle.std.specs.Arc.{arc_slice_items};
+    ghost use Rattle.fcg_grammar.specs.Number.{part};
 
     ghost Value = { List ℕ };
 
-    ghost view = { λ n. arc_slice_items n.bytes };
+    ghost view = { λ n. part (arc_slice_items n.block) n.begin n.len };
+
+    ghost invariant = { λ n. (n.begin + n.len ≤ length (arc_slice_items n.block)) × (n.begin + n.len < 2 ^ 32) };
 }
 
 impl Name {
-    /// A name of its own for these bytes, which are copied.
+    /// A name with a block of its own for these bytes, which are copied. A name has less than 2 ^ 32 bytes: there is no
+    /// memory for a longer one.
     pub fn from_slice(alloc: Global, bytes: &[u8]) -> Result<Name, NoMemory>
         ensures { IfOk result (λ name. name ≡ bytes.now) }
     {
+        let Ok(len) = u32::try_from(bytes.len()) else {
+            return Err(NoMemory);
+        };
         Ok(Name {
-            bytes: ArcSlice::from_slice(alloc, bytes)?,
+            block: ArcSlice::from_slice(alloc, bytes)?,
+            begin: 0,
+            len,
+        })
+    }
+
+    /// The name of `len` of these bytes from a place on, in the same block.
+    pub fn part(&self, begin: usize, len: usize) -> Result<Name, AllocError>
+        requires { begin + len ≤ length self.now }
+        ensures { IfOk result (λ name. name ≡ part self.now begin len) }
+    {
+        Ok(Name {
+            block: self.block.clone()?,
+            begin: self.begin + begin as u32,
+            len: len as u32,
         })
     }
 
@@ -42,7 +68,9 @@ impl Name {
     pub fn as_slice(&self) -> &[u8]
         ensures { result.now ≡ self.now }
     {
-        self.bytes.as_slice()
+        let begin = self.begin as usize;
+        let end = begin + self.len as usize;
+        &self.block.as_slice()[begin..end]
     }
 }
 
@@ -51,7 +79,9 @@ impl Clone for Name {
 
     fn clone(&self) -> Result<Name, AllocError> {
         Ok(Name {
-            bytes: self.bytes.clone()?,
+            block: self.block.clone()?,
+            begin: self.begin,
+            len: self.len,
         })
     }
 }

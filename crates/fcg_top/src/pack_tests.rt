@@ -1,7 +1,7 @@
 //! Packing folders: which bundle it gives, each refusal, and what is left where the files or the output fail in
 //! mid-stream.
 
-use crate::tests::SMALLEST;
+use crate::tests::{Outcome, SMALLEST};
 use crate::{Status, run};
 use fcg_bytes::{MemoryFiles, MemorySink, MemorySource};
 use fcg_views::NoMemory;
@@ -10,13 +10,6 @@ use std::test::Fail;
 
 // The smallest bundle's class file stands after its head and its path.
 const CLASS_AT: usize = 23;
-
-#[derive(Drop)]
-struct Outcome {
-    status: Status,
-    output: MemorySink,
-    errors: MemorySink,
-}
 
 // The body that a word stands for: `@` for the smallest class file, and else its own bytes.
 fn body_of(alloc: Global, word: &str) -> Result<Vec<u8>, AllocError> {
@@ -38,8 +31,8 @@ fn files_of(alloc: Global, text: &str) -> Result<Vec<(String, Vec<u8>)>, AllocEr
     Ok(files)
 }
 
-// Runs `pack d` over files whose call with a number fails, into an output whose call with a number fails.
-fn pack_over(
+/// Runs `pack d` over files whose call with a number fails, into an output whose call with a number fails.
+pub fn pack_over(
     alloc: Global,
     files: Vec<(String, Vec<u8>)>,
     fail: u64,

@@ -9,7 +9,7 @@ use fcg_views::NoMemory;
 use std::alloc::{AllocError, Global};
 use std::test::Fail;
 
-// The bundle of the smallest class file, an interface `I`.
+/// The bundle of the smallest class file, an interface `I`.
 pub const SMALLEST: [u8; 76] = [
     0x46, 0x43, 0x47, 0x42, 0x00, 0x01, 0x00, 0x00, 0x00, 0x01, 0x00, 0x07, 0x49, 0x2e, 0x63, 0x6c,
     0x61, 0x73, 0x73, 0x00, 0x00, 0x00, 0x35, 0xca, 0xfe, 0xba, 0xbe, 0x00, 0x00, 0x00, 0x41, 0x00,
@@ -135,12 +135,12 @@ const LAMBDA: [u8; 317] = [
     0x0c, 0x00, 0x01, 0x00, 0x0d, 0x00, 0x03, 0x00, 0x11, 0x00, 0x10, 0x00, 0x11,
 ];
 
-// What a run over memory left.
+/// What a run over memory left.
 #[derive(Drop)]
-struct Outcome {
-    status: Status,
-    output: MemorySink,
-    errors: MemorySink,
+pub struct Outcome {
+    pub status: Status,
+    pub output: MemorySink,
+    pub errors: MemorySink,
 }
 
 // A sink that takes five bytes a call at most, and fails at the call with this number.
@@ -180,8 +180,13 @@ fn words(alloc: Global, line: &str) -> Result<Vec<String>, AllocError> {
     Ok(words)
 }
 
-// Runs words over bytes in pieces of ten, where the reads with these numbers fail.
-fn run_over(alloc: Global, line: &str, bytes: &[u8], fail: &[u64]) -> Result<Outcome, NoMemory> {
+/// Runs words over bytes in pieces of ten, where the reads with these numbers fail.
+pub fn run_over(
+    alloc: Global,
+    line: &str,
+    bytes: &[u8],
+    fail: &[u64],
+) -> Result<Outcome, NoMemory> {
     let words = words(alloc, line)?;
     let mut input = MemorySource::new(bytes.to_vec(alloc)?, 10, fail.to_vec(alloc)?);
     let mut output = MemorySink::new(alloc, 1000, Vec::new(alloc))?;

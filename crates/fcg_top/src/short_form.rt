@@ -1,12 +1,12 @@
 //! Views of class files from a short text, for tests.
 //!
 //! The text's words, between single spaces, go in pairs of a keyword and what it is about. `class C` and `interface C`
-//! begin a type, below `java/lang/Object`; `extends C` names another superclass of it, `without superclass` says that it
-//! has none, and `implements C` adds an interface. `pub MD`, `abs MD`, `static MD`, `private MD` and `package MD` (that of
-//! no flags) add a method to it. The sites of the method stand between the words `[` and `]`, one after the other from
-//! the place 0: `static C.MD`, `special C.MD`, `virtual C.MD`, `interface C.MD`, `new C`, and `handle5 C.MD` to
-//! `handle9 C.MD`, of which those that follow one another are of one `invokedynamic`. C is a type's name, M a method's
-//! name and D its descriptor.
+//! begin a type, below `java/lang/Object`; `extends C` names another superclass of it, `without superclass` says that
+//! it has none, and `implements C` adds an interface. `pub MD`, `abs MD`, `static MD`, `private MD` and `package MD`
+//! (that of no flags) add a method to it. The sites of the method stand between the words `[` and `]`, one after the
+//! other from the place 0: `static C.MD`, `special C.MD`, `virtual C.MD`, `interface C.MD`, `new C`, and `handle5 C.MD`
+//! to `handle9 C.MD`, of which those that follow one another are of one `invokedynamic`. C is a type's name, M a
+//! method's name and D its descriptor.
 
 use fcg_views::{
     Fields, HandleKind, Method, Methods, Name, Names, NoMemory, Ref, Site, SiteKind, Sites, View,

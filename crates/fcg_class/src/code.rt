@@ -142,6 +142,7 @@ fn read_found(
         push_found(&mut sites, &mut calls, found)?;
         pc = instruction.next as usize;
     }
+    sites.shrink_to_fit();
     Ok((sites, calls))
 }
 

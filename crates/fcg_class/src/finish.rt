@@ -45,9 +45,9 @@ fn next_site(own: &mut VecDeque<Site>, handles: &mut VecDeque<Site>) -> Option<S
 fn merge(alloc: Global, own: Sites, handles: Vec<Site>) -> Result<Sites, AllocError>
     ensures { IfOk result (λ sites. sites ≡ merged own handles.items) }
 {
+    let mut sites = Vec::with_capacity(alloc, own.as_slice().len() + handles.len())?;
     let mut own = VecDeque::from_vec(own.into_vec());
     let mut handles = VecDeque::from_vec(handles);
-    let mut sites = Vec::new(alloc);
     while let Some(site) = next_site(&mut own, &mut handles) {
         sites.push(site)?;
     }

@@ -2,3 +2,4 @@ pub mod ConstantLemmas
 pub mod TagLemmas
 pub mod PlaceLemmas
 pub mod GroupLemmas
+pub mod Layouts

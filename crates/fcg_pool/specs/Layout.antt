@@ -1,5 +1,5 @@
 -- What the code says of the forms of instructions.
-use Rattle.std.specs.Prelude.{Option, Some, None}
+use Rattle.std.specs.Prelude.{ℕ, nat_le, ◌==◌, Option, Some, None, if◌then◌else◌}
 use Rattle.fcg_views.specs.Instructions.{Form, Fixed, Table, Lookup, Wide}
 use Rattle.fcg_pool.specs.declared.instruction.Layout.{Layout}
 use Rattle.fcg_pool.specs.declared.instruction.Layout.TheVariants as layouts
@@ -13,3 +13,9 @@ form_in layouts.Wide = Wide
 abbrev pub form_seen : Option Layout → Option Form
 form_seen None = None
 form_seen (Some layout) = Some (form_in layout)
+
+-- the form that a number of the table tells
+abbrev pub form_told : ℕ → Option Form
+form_told n =
+    if nat_le n 4 then Some (Fixed n)
+    else (if n == 5 then Some Table else (if n == 6 then Some Lookup else (if n == 7 then Some Wide else None)))

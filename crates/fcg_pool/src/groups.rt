@@ -19,7 +19,12 @@ fn front_group(text: &[u8]) -> usize
 fn are_single(text: &[u8]) -> bool
     ensures { result ≡ list_all is_single text.now }
 {
-    text.iter().all(|byte| 1 <= *byte && *byte <= 0x7f)
+    // without an end before the last byte, so that many are looked at in one instruction
+    let mut single = true;
+    for byte in text {
+        single &= 1 <= *byte && *byte <= 0x7f;
+    }
+    single
 }
 
 /// The first bad group of a text that stands at a place.

@@ -3,7 +3,8 @@ ghost use Rattle.std.specs.Prelude.{◌≡◌, ◌+◌, ◌<◌, ◌≤◌, ◌^
 ghost use Rattle.fcg_grammar.specs.Reading.{seen};
 ghost use Rattle.fcg_views.specs.Instructions.{form_of, wide_of, moved_up, pad_of};
 ghost use Rattle.fcg_views.specs.Breaks.Instructions.{passed, table_at, lookup_at, wide_at, formed_at, next_at, operand_in, operand_at};
-ghost use Rattle.fcg_pool.specs.Layout.{form_seen};
+ghost use Rattle.fcg_pool.specs.Layout.{form_seen, form_told};
+ghost use Rattle.fcg_pool.specs.declared.instruction.TheConstants.{LAYOUTS};
 
 use fcg_grammar::{read_part, read_u1, read_u4};
 use fcg_views::CodeRule;
@@ -29,25 +30,45 @@ enum Layout {
     Wide,
 }
 
-// What follows an opcode; nothing has the opcodes from 202 on.
+// What follows an opcode, by a number: so many bytes from 0 to 4, what a tableswitch has by 5, what a lookupswitch has
+// by 6, an instruction that is made wide by 7. Nothing has the opcodes from 202 on, by 8.
+static LAYOUTS: [u8; 256] = [
+    0, 0, 0, 0, 0, 0, 0, 0, 0, 0, 0, 0, 0, 0, 0, 0, 1, 2, 1, 2, 2, 1, 1, 1, 1, 1, 0, 0, 0, 0, 0, 0,
+    0, 0, 0, 0, 0, 0, 0, 0, 0, 0, 0, 0, 0, 0, 0, 0, 0, 0, 0, 0, 0, 0, 1, 1, 1, 1, 1, 0, 0, 0, 0, 0,
+    0, 0, 0, 0, 0, 0, 0, 0, 0, 0, 0, 0, 0, 0, 0, 0, 0, 0, 0, 0, 0, 0, 0, 0, 0, 0, 0, 0, 0, 0, 0, 0,
+    0, 0, 0, 0, 0, 0, 0, 0, 0, 0, 0, 0, 0, 0, 0, 0, 0, 0, 0, 0, 0, 0, 0, 0, 0, 0, 0, 0, 0, 0, 0, 0,
+    0, 0, 0, 0, 2, 0, 0, 0, 0, 0, 0, 0, 0, 0, 0, 0, 0, 0, 0, 0, 0, 0, 0, 0, 0, 2, 2, 2, 2, 2, 2, 2,
+    2, 2, 2, 2, 2, 2, 2, 2, 2, 1, 5, 6, 0, 0, 0, 0, 0, 0, 2, 2, 2, 2, 2, 2, 2, 4, 4, 2, 1, 2, 0, 0,
+    2, 2, 0, 0, 7, 3, 2, 2, 4, 4, 8, 8, 8, 8, 8, 8, 8, 8, 8, 8, 8, 8, 8, 8, 8, 8, 8, 8, 8, 8, 8, 8,
+    8, 8, 8, 8, 8, 8, 8, 8, 8, 8, 8, 8, 8, 8, 8, 8, 8, 8, 8, 8, 8, 8, 8, 8, 8, 8, 8, 8, 8, 8, 8, 8,
+];
+
+// The number of what follows an opcode.
+fn layout_number(opcode: u8) -> u8
+    ensures { result ≡ slice_index LAYOUTS opcode }
+{
+    LAYOUTS[usize::from(opcode)]
+}
+
+// What a number of the table tells.
+fn layout_told(number: u8) -> Option<Layout>
+    ensures { form_seen result ≡ form_told number }
+{
+    match number {
+        0..=4 => Some(Layout::Fixed(usize::from(number))),
+        5 => Some(Layout::Table),
+        6 => Some(Layout::Lookup),
+        7 => Some(Layout::Wide),
+        _ => None,
+    }
+}
+
+// What follows an opcode. It is asked for each instruction, and a table tells it in the fewest steps.
+#[tactic(auto, using(crate::proofs::Layouts::layout_told))]
 fn layout_of(opcode: u8) -> Option<Layout>
     ensures { form_seen result ≡ form_of opcode }
 {
-    match opcode {
-        0..=15 | 26..=53 | 59..=131 | 133..=152 | 172..=177 | 190..=191 | 194..=195 => {
-            Some(Layout::Fixed(0))
-        }
-        16 | 18 | 21..=25 | 54..=58 | 169 | 188 => Some(Layout::Fixed(1)),
-        17 | 19..=20 | 132 | 153..=168 | 178..=184 | 187 | 189 | 192..=193 | 198..=199 => {
-            Some(Layout::Fixed(2))
-        }
-        197 => Some(Layout::Fixed(3)),
-        185..=186 | 200..=201 => Some(Layout::Fixed(4)),
-        170 => Some(Layout::Table),
-        171 => Some(Layout::Lookup),
-        196 => Some(Layout::Wide),
-        _ => None,
-    }
+    layout_told(layout_number(opcode))
 }
 
 // How many bytes follow an opcode that is made wide.

@@ -246,12 +246,17 @@ fn scan_from(start: DescState, text: &[u8]) -> Result<DescState, usize>
     ensures { result ≡ scan_from 0 start text.now }
 {
     let mut state = start;
-    for (at, byte) in text.iter().enumerate() {
-        if !stays(state, *byte) {
-            match step(state, at, *byte) {
+    let mut at = 0;
+    while at < text.len() {
+        while at < text.len() && stays(state, text[at]) {
+            at += 1;
+        }
+        if at < text.len() {
+            match step(state, at, text[at]) {
                 Some(next) => state = next,
                 None => return Err(at),
             }
+            at += 1;
         }
     }
     Ok(state)

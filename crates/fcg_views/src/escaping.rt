@@ -1,8 +1,6 @@
 //! Names in the texts that are printed.
 ghost use Rattle.std.specs.Prelude.{◌≡◌, ◌++◌, OnOk, OnErr, IfOk, string_bytes};
-ghost use Rattle.std.specs.Prelude.{slice_index};
 ghost use Rattle.std.specs.List.{list_all};
-ghost use Rattle.fcg_views.specs.declared.escaping.TheConstants.{STANDS};
 ghost use Rattle.fcg_views.specs.Escape.{escaped, may_stand};
 
 use crate::items::Bytes;
@@ -28,21 +26,77 @@ const CLASS: AsciiSet = ascii_set!(MEMBER.remove(b'/'));
 
 const DESC: AsciiSet = ascii_set!(CLASS.remove(b'(').remove(b')').remove(b';').remove(b'['));
 
-// By the byte, in how many of the places it stands as it is: in none, in descriptors alone, also in names of types, or
-// in all.
-static STANDS: [u8; 256] = [
-    0, 0, 0, 0, 0, 0, 0, 0, 0, 0, 0, 0, 0, 0, 0, 0, 0, 0, 0, 0, 0, 0, 0, 0, 0, 0, 0, 0, 0, 0, 0, 0,
-    0, 0, 0, 0, 3, 0, 0, 0, 1, 1, 0, 0, 0, 3, 0, 2, 3, 3, 3, 3, 3, 3, 3, 3, 3, 3, 0, 1, 0, 0, 0, 0,
-    0, 3, 3, 3, 3, 3, 3, 3, 3, 3, 3, 3, 3, 3, 3, 3, 3, 3, 3, 3, 3, 3, 3, 3, 3, 3, 3, 1, 0, 0, 0, 3,
-    0, 3, 3, 3, 3, 3, 3, 3, 3, 3, 3, 3, 3, 3, 3, 3, 3, 3, 3, 3, 3, 3, 3, 3, 3, 3, 3, 0, 0, 0, 0, 0,
-    0, 0, 0, 0, 0, 0, 0, 0, 0, 0, 0, 0, 0, 0, 0, 0, 0, 0, 0, 0, 0, 0, 0, 0, 0, 0, 0, 0, 0, 0, 0, 0,
-    0, 0, 0, 0, 0, 0, 0, 0, 0, 0, 0, 0, 0, 0, 0, 0, 0, 0, 0, 0, 0, 0, 0, 0, 0, 0, 0, 0, 0, 0, 0, 0,
-    0, 0, 0, 0, 0, 0, 0, 0, 0, 0, 0, 0, 0, 0, 0, 0, 0, 0, 0, 0, 0, 0, 0, 0, 0, 0, 0, 0, 0, 0, 0, 0,
-    0, 0, 0, 0, 0, 0, 0, 0, 0, 0, 0, 0, 0, 0, 0, 0, 0, 0, 0, 0, 0, 0, 0, 0, 0, 0, 0, 0, 0, 0, 0, 0,
+// Whether a byte stands as it is in the name of a type.
+static STANDS_IN_CLASS: [bool; 256] = [
+    false, false, false, false, false, false, false, false, false, false, false, false, false,
+    false, false, false, false, false, false, false, false, false, false, false, false, false,
+    false, false, false, false, false, false, false, false, false, false, true, false, false,
+    false, false, false, false, false, false, true, false, true, true, true, true, true, true,
+    true, true, true, true, true, false, false, false, false, false, false, false, true, true,
+    true, true, true, true, true, true, true, true, true, true, true, true, true, true, true, true,
+    true, true, true, true, true, true, true, true, false, false, false, false, true, false, true,
+    true, true, true, true, true, true, true, true, true, true, true, true, true, true, true, true,
+    true, true, true, true, true, true, true, true, true, false, false, false, false, false, false,
+    false, false, false, false, false, false, false, false, false, false, false, false, false,
+    false, false, false, false, false, false, false, false, false, false, false, false, false,
+    false, false, false, false, false, false, false, false, false, false, false, false, false,
+    false, false, false, false, false, false, false, false, false, false, false, false, false,
+    false, false, false, false, false, false, false, false, false, false, false, false, false,
+    false, false, false, false, false, false, false, false, false, false, false, false, false,
+    false, false, false, false, false, false, false, false, false, false, false, false, false,
+    false, false, false, false, false, false, false, false, false, false, false, false, false,
+    false, false, false, false, false, false, false, false, false, false, false, false, false,
+    false, false, false, false, false, false, false, false, false, false,
+];
+
+// Whether a byte stands as it is in the name of a method or a field.
+static STANDS_IN_MEMBER: [bool; 256] = [
+    false, false, false, false, false, false, false, false, false, false, false, false, false,
+    false, false, false, false, false, false, false, false, false, false, false, false, false,
+    false, false, false, false, false, false, false, false, false, false, true, false, false,
+    false, false, false, false, false, false, true, false, false, true, true, true, true, true,
+    true, true, true, true, true, false, false, false, false, false, false, false, true, true,
+    true, true, true, true, true, true, true, true, true, true, true, true, true, true, true, true,
+    true, true, true, true, true, true, true, true, false, false, false, false, true, false, true,
+    true, true, true, true, true, true, true, true, true, true, true, true, true, true, true, true,
+    true, true, true, true, true, true, true, true, true, false, false, false, false, false, false,
+    false, false, false, false, false, false, false, false, false, false, false, false, false,
+    false, false, false, false, false, false, false, false, false, false, false, false, false,
+    false, false, false, false, false, false, false, false, false, false, false, false, false,
+    false, false, false, false, false, false, false, false, false, false, false, false, false,
+    false, false, false, false, false, false, false, false, false, false, false, false, false,
+    false, false, false, false, false, false, false, false, false, false, false, false, false,
+    false, false, false, false, false, false, false, false, false, false, false, false, false,
+    false, false, false, false, false, false, false, false, false, false, false, false, false,
+    false, false, false, false, false, false, false, false, false, false, false, false, false,
+    false, false, false, false, false, false, false, false, false, false,
+];
+
+// Whether a byte stands as it is in a descriptor.
+static STANDS_IN_DESC: [bool; 256] = [
+    false, false, false, false, false, false, false, false, false, false, false, false, false,
+    false, false, false, false, false, false, false, false, false, false, false, false, false,
+    false, false, false, false, false, false, false, false, false, false, true, false, false,
+    false, true, true, false, false, false, true, false, true, true, true, true, true, true, true,
+    true, true, true, true, false, true, false, false, false, false, false, true, true, true, true,
+    true, true, true, true, true, true, true, true, true, true, true, true, true, true, true, true,
+    true, true, true, true, true, true, true, false, false, false, true, false, true, true, true,
+    true, true, true, true, true, true, true, true, true, true, true, true, true, true, true, true,
+    true, true, true, true, true, true, true, false, false, false, false, false, false, false,
+    false, false, false, false, false, false, false, false, false, false, false, false, false,
+    false, false, false, false, false, false, false, false, false, false, false, false, false,
+    false, false, false, false, false, false, false, false, false, false, false, false, false,
+    false, false, false, false, false, false, false, false, false, false, false, false, false,
+    false, false, false, false, false, false, false, false, false, false, false, false, false,
+    false, false, false, false, false, false, false, false, false, false, false, false, false,
+    false, false, false, false, false, false, false, false, false, false, false, false, false,
+    false, false, false, false, false, false, false, false, false, false, false, false, false,
+    false, false, false, false, false, false, false, false, false, false, false, false, false,
+    false, false, false, false, false, false, false, false, false,
 ];
 
 impl Place {
-    ghost use Rattle.fcg_views.specs.Place.{set_of, least_of};
+    ghost use Rattle.fcg_views.specs.Place.{set_of, table_of};
     ghost use Rattle.fcg_views.specs.Escape.{others, may_stand};
     ghost use Rattle.std.specs.Prelude.{◌==◌};
     ghost use Rattle.std.specs.List.{list_any};
@@ -65,14 +119,14 @@ impl Place {
         byte.is_ascii_alphanumeric() || self.is_other(byte)
     }
 
-    // What `STANDS` has at least for the bytes that stand as they are there.
-    fn least(self) -> u8
-        ensures { result ≡ least_of self }
+    // By the byte, whether it stands as it is there.
+    fn table(self) -> &'static [bool; 256]
+        ensures { result.now ≡ table_of self }
     {
         match self {
-            Place::Class => 2,
-            Place::Member => 3,
-            Place::Desc => 1,
+            Place::Class => &STANDS_IN_CLASS,
+            Place::Member => &STANDS_IN_MEMBER,
+            Place::Desc => &STANDS_IN_DESC,
         }
     }
 
@@ -88,21 +142,14 @@ impl Place {
     }
 }
 
-// In how many of the places a byte stands as it is.
-fn standing(byte: u8) -> u8
-    ensures { result ≡ slice_index STANDS byte }
-{
-    STANDS[usize::from(byte)]
-}
-
 // Whether each byte stands as it is there.
 fn all_stand(bytes: &[u8], place: Place) -> bool
     ensures { result ≡ list_all (may_stand place) bytes.now }
 {
-    let least = place.least();
+    let table = place.table();
     let mut all = true;
     for byte in bytes {
-        all &= standing(*byte) >= least;
+        all &= table[usize::from(*byte)];
     }
     all
 }
@@ -113,7 +160,7 @@ pub fn push_escaped(out: &mut String, bytes: &[u8], place: Place) -> Result<(), 
     ensures ok { OnOk result (string_bytes out.new ≡ string_bytes out.old ++ escaped place bytes.now) }
     ensures err { OnErr result (string_bytes out.new ≡ string_bytes out.old) }
 {
-    // most names stand as they are, which a table tells in the shortest loop
+    // most names stand as they are, which a table tells in the fewest steps
     if all_stand(bytes, place) {
         return out.push_str(ascii_str(bytes));
     }

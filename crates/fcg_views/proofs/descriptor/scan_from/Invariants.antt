@@ -1,7 +1,18 @@
-use Rattle.std.proofs.Common.{◌≡◌, drop}
+use Rattle.std.proofs.Common.{length, drop, ◌-◌, ◌≡◌, ◌≤◌}
 use Rattle.fcg_views.specs.DescSteps.{scan_from}
 use Rattle.fcg_views.specs.DescBounds.{IsSmall}
 use Rattle.fcg_views.proofs.descriptor.scan_from.Given as goal
 
 abbrev pub invariant-loop-at : goal.invariant-loop-at
-invariant-loop-at l = (scan_from l.at l.state (drop l.at l.text) ≡ scan_from 0 l.fn.start l.text) × IsSmall l.state
+invariant-loop-at l = (scan_from l.at l.state (drop l.at l.text) ≡ scan_from 0 l.fn.start l.text) × IsSmall l.state × (l.at ≤ length l.text)
+
+abbrev pub decreases-loop-at : goal.decreases-loop-at
+decreases-loop-at l = length l.text - l.at
+
+abbrev pub invariant-loop-at-2 : goal.invariant-loop-at-2
+invariant-loop-at-2 l =
+    (scan_from l.at l.state (drop l.at l.text) ≡ scan_from 0 l.fn.start l.text) × IsSmall l.state × (l.at ≤ length l.text)
+    × (l.initial.at ≤ l.at)
+
+abbrev pub decreases-loop-at-2 : goal.decreases-loop-at-2
+decreases-loop-at-2 l = length l.text - l.at

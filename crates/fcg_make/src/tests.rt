@@ -134,3 +134,31 @@ fn refuses(rt: HostRuntime) -> Result<(), Fail> {
     }
     Ok(())
 }
+
+// A view of a type below so many interfaces, each of another name.
+fn view_below(alloc: Global, count: u32) -> Result<View, Fail> {
+    let mut interfaces = Vec::new(alloc);
+    for number in 0..count {
+        let mut name = String::new(alloc);
+        write!(name, "{number}")?;
+        interfaces.push(Name::from_slice(alloc, name.as_bytes())?)?;
+    }
+    let view = view_of(alloc, "C", 0x21, None, Vec::new(alloc))?;
+    Ok(View {
+        interfaces: Items::from(interfaces),
+        ..view
+    })
+}
+
+// The type, its superclass and each interface have two entries, and a pool has at most 65,534.
+#[test]
+fn fills_the_pool(rt: HostRuntime) -> Result<(), Fail> {
+    let full = view_below(rt.alloc(), 32_765)?;
+    assert!(rt; is_valid(&full));
+    assert!(rt; write_class(rt.alloc(), &full).is_ok());
+    let above = view_below(rt.alloc(), 32_766)?;
+    assert!(rt; is_valid(&above));
+    let want = WriteError::NotWritable(NotWritable::PoolFull);
+    assert_eq!(rt; write_class(rt.alloc(), &above).err(), Some(want));
+    Ok(())
+}

@@ -271,8 +271,9 @@ fn read_whole(alloc: Global, bytes: &[u8]) -> Result<Views, ReadError<BundleFaul
 /// of the entry's body. It is [`ReadError::NoMemory`] where memory ran out.
 ///
 /// It makes one pass over the bytes. For each entry it makes some comparisons of paths more, about the logarithm of the
-/// number of entries, and likewise for each Utf8 that names a method and, of indexes, for each method. Beside the
-/// views it takes memory for one class file's pool and for a set of the paths, which stay in the bytes.
+/// number of entries, and likewise for each Utf8 that names a method and, of indexes, for each method. The names of a
+/// view share one copy of its class file. Beside the views it takes memory for one class file's pool and for a set of
+/// the paths, which stay in the bytes.
 pub fn read_bundle(alloc: Global, bytes: &[u8]) -> Result<Views, ReadError<BundleFault>>
     // What is read is a bundle with this content.
     ensures found { IfOk result (Content bytes.now) }

@@ -285,7 +285,8 @@ fn read_whole(alloc: Global, bytes: &[u8]) -> Result<Option<View>, ReadError<Cla
 
 /// The view of a class file (JVMS 4.1), or `None` for a module, or its first fault in reading order. It makes one pass
 /// over the bytes, and for each method some comparisons more, about the logarithm of the number of methods. It takes
-/// memory for the pool's entries, for the bootstrap methods and the calls of them, and for the view.
+/// memory for the pool's entries, for the bootstrap methods and the calls of them, and for the view, whose names share
+/// one copy of the bytes.
 pub fn read_class(alloc: Global, bytes: &[u8]) -> Result<Option<View>, ReadError<ClassFault>>
     // What is read is a class file with that view.
     ensures found { IfOk result (Reads bytes.now) }

@@ -113,7 +113,7 @@ fn read_interface_rows(
     ensures inside { IfOk result (λ x. x.1 ≤ length names.old.bytes) }
     ensures same { names.new ≡ names.old }
 {
-    let mut interfaces = Vec::new(alloc);
+    let mut interfaces = Vec::with_capacity(alloc, usize::from(count))?;
     let mut place = at;
     for _ in 0..count {
         let (name, after) = read_interface(names, place)?;

@@ -132,7 +132,8 @@ fn read_found(
     ensures placed { IfOk result (λ x. ArePlaced code.entry.begin x.1.items) }
     ensures same { names.new ≡ names.old }
 {
-    let mut sites = Vec::new(alloc);
+    // most codes have fewer, and what isn't used is given back
+    let mut sites = Vec::with_capacity(alloc, code.bytes.len() / 8)?;
     let mut calls = Vec::new(alloc);
     let mut pc = 0;
     while pc < code.bytes.len() {

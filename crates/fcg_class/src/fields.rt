@@ -13,7 +13,7 @@ use fcg_grammar::ReadError;
 use fcg_views::{ClassFault, Field, Fields, NoMemory};
 use std::alloc::Global;
 
-// The field that a row declares, with names of its own.
+// The field that a row declares.
 fn make_field(names: &mut ClassNames<'_>, declared: &Declared<'_>) -> Result<Field, NoMemory>
     requires { AreTextsOf names.old declared.now }
     ensures ok { IfOk result (λ field. field ≡ field_of (declared_of declared.now)) }
@@ -60,7 +60,7 @@ fn read_field_rows(
     ensures inside { IfOk result (λ x. x.1 ≤ length names.old.bytes) }
     ensures same { names.new ≡ names.old }
 {
-    let mut fields = Vec::new(alloc);
+    let mut fields = Vec::with_capacity(alloc, usize::from(count))?;
     let mut place = at;
     for _ in 0..count {
         let (field, after) = read_field(names, place)?;
@@ -76,8 +76,8 @@ fn read_field_rows(
 /// name is empty, or a descriptor is no field descriptor, at the place of its index; the name of an attribute is no
 /// Utf8, or its content passes the file's end.
 ///
-/// It makes one pass over the rows, and passes over the attributes by their lengths. Names are copied, and descriptors
-/// read, once for each Utf8 of the pool. It takes memory for the fields.
+/// It makes one pass over the rows, and passes over the attributes by their lengths. A descriptor is read once for each
+/// Utf8 of the pool. It takes memory for as many fields as the count says.
 #[tactic(auto, unfolding(fcg_views::specs::Breaks::Members::fields_at))]
 pub fn read_fields(
     alloc: Global,

@@ -109,7 +109,7 @@ fn parts_or_none(alloc: Global, code: Option<MethodCode>) -> (Sites, CodeCalls)
     }
 }
 
-// The method that a row declares, with names of its own and this code.
+// The method that a row declares, with this code.
 fn make_method(
     alloc: Global,
     names: &mut ClassNames<'_>,
@@ -172,7 +172,7 @@ fn read_method_rows(
     ensures inside { IfOk result (λ x. x.1 ≤ length names.old.bytes) }
     ensures same { names.new ≡ names.old }
 {
-    let mut table = MethodTable::new(alloc, names.pool())?;
+    let mut table = MethodTable::new(alloc, names.pool(), count)?;
     let mut place = at;
     for _ in 0..count {
         place = read_method(alloc, names, &mut table, place)?;

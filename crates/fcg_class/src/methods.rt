@@ -37,12 +37,12 @@ impl<'a> Model for MethodTable<'a> {
 }
 
 impl<'a> MethodTable<'a> {
-    /// No method yet. It takes memory for each index of the pool.
-    pub fn new(alloc: Global, pool: &'a Pool<'a>) -> Result<MethodTable<'a>, AllocError>
+    /// No method yet, and memory for so many. It takes memory for each index of the pool too.
+    pub fn new(alloc: Global, pool: &'a Pool<'a>, count: u16) -> Result<MethodTable<'a>, AllocError>
         ensures { IfOk result (λ table. table ≡ record { pool = pool.now; methods = [] }) }
     {
         Ok(MethodTable {
-            methods: Vec::new(alloc),
+            methods: Vec::with_capacity(alloc, usize::from(count))?,
             texts: FirstTexts::new(alloc, pool)?,
             signatures: BTreeSet::new(alloc),
             sites: 0,

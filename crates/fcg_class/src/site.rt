@@ -108,7 +108,7 @@ fn find_member<'a>(
     Ok(member)
 }
 
-// A member of a type, with names of its own.
+// A member of a type.
 fn make_ref(names: &mut ClassNames<'_>, member: &RefTexts<'_>) -> Result<Ref, NoMemory>
     requires { AreRefTexts names.old member.now }
     ensures ok { IfOk result (λ target. target ≡ ref_of member.now) }
@@ -191,7 +191,7 @@ fn read_target(
 /// or the field is empty; the descriptor of a method is no method descriptor, or that of a field no field descriptor;
 /// the class has as many sites before as it may have.
 ///
-/// Takes constant time, but where a Utf8 is needed for the first time: then its bytes are copied or read once.
+/// Takes constant time, but where a descriptor is needed for the first time: then it is read.
 #[tactic(auto, unfolding(fcg_views::specs::Breaks::Code::site_of))]
 pub fn read_site_of(
     names: &mut ClassNames<'_>,

@@ -6,7 +6,7 @@ use Rattle.fcg_class.proofs.class.read_interface_rows.Goals as goal
 
 pub returns-in_err-name-clause-value : goal.returns-in_err-name-clause-value
 returns-in_err-name-clause-value c =
-    let p = err_from_is_err_and c.from_residual.result c.from_residual.ensures.1 in
+    let p = err_from_is_err_and c.from_residual-in_err-name.result c.from_residual-in_err-name.ensures.1 in
     let given = rw c.loop.invariant.2 at (c.in_err-name.ensures.value c.loop.counter) in
     rw (p.1, p.2) (rows_fail (interface_at c.args.names.now) c.in_err-name.field-0.0 c.loop.interfaces.items c.args.count c.loop.counter c.loop.place _ c.loop-test.true given c.loop.invariant.0)
 

@@ -7,7 +7,7 @@ use Rattle.fcg_class.proofs.CodeLemmas.{found_begin, found_go_on, found_counted,
 use Rattle.fcg_class.proofs.code.read_found.Goals as goal
 
 pub loop-pc-init : goal.loop-pc-init
-loop-pc-init c = rw (c.new-sites.ensures.items, c.new-calls.ensures.items) (
+loop-pc-init c = rw (c.in_ok-sites.ensures.items, c.new-calls.ensures.items) (
   found_begin c.args.names.now c.args.code.begin c.args.code.bytes.now c.args.count,
   omega arith,
   (let few = c.requires.few in omega (arith, few)),
@@ -17,7 +17,7 @@ loop-pc-init c = rw (c.new-sites.ensures.items, c.new-calls.ensures.items) (
 
 pub returns-in_err-instruction-clause-value : goal.returns-in_err-instruction-clause-value
 returns-in_err-instruction-clause-value c =
-    let p = err_from_is_err_and c.from_residual.result c.from_residual.ensures.1 in
+    let p = err_from_is_err_and c.from_residual-in_err-instruction.result c.from_residual-in_err-instruction.ensures.1 in
     rw (p.1, p.2) (next_fails c.args.names.now c.args.code.begin c.args.code.bytes.now c.args.count c.loop-pc.pc _ c.in_err-instruction.field-0.0 _ c.loop-pc-test.true (sym c.in_err-instruction.ensures.value) c.loop-pc.invariant.0)
 
 pub returns-in_err-found-clause-value : goal.returns-in_err-found-clause-value

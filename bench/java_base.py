@@ -5,8 +5,9 @@ The bundle is made of the class files of the oldest JDK on the machine, those of
 that they may have. Each command reads it from a file and writes to /dev/null; of each the least seconds of some runs
 are printed, the megabytes of class files a second, and the peak memory of one more run by time(1), also as a share of
 the bundle. Runs of the commands take turns, so that what else the machine does is in all of them. With --program the
-built program is run itself, else ./fcg, whose look at the sources is part of its time. With --keep the bundle stays
-where the option says. With --instructions valgrind counts the instructions of one run of each.
+built program is run itself, in the environment that ./fcg gives it, else ./fcg, whose look at the sources is part of
+its time. With --keep the bundle stays where the option says. With --instructions valgrind counts the instructions of
+one run of each.
 """
 
 import argparse
@@ -62,6 +63,7 @@ def options_of():
 def main():
     """Makes the bundle and prints the rows."""
     options = options_of()
+    os.environ.setdefault("GLIBC_TUNABLES", "glibc.malloc.hugetlb=1")
     homes = real_input.jdks()
     if not homes:
         sys.exit("there is no JDK")

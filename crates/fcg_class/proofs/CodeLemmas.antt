@@ -108,6 +108,17 @@ module _ (pool : Entries) (begin : ℕ) (code : List ℕ) where
         so_far = subst (λ (k : ℕ). after_front (both front here) (found_from pool begin code m.0 next k) ≡ total) n (sym one ∙ m.2);
       }
 
+  found_nothing : (pc count : ℕ) → site_form (get_or code pc 0) ≡ None → is_dynamic (get_or code pc 0) ≡ false → found_at pool begin code pc count ≡ Ok nothing
+  unfolding found_at
+  found_nothing pc count no_site no_call = rw (no_site, no_call) refl
+
+  -- an instruction that has nothing is passed over
+  pub found_pass : (count pc next : ℕ) (front : Found) (total : Result Found ClassFault) → pc < length code → pc < next → next_at code pc ≡ Ok next
+      → site_form (get_or code pc 0) ≡ None → is_dynamic (get_or code pc 0) ≡ false → FoundLeft count pc front total → FoundLeft count next front total
+  found_pass count pc next front total lt later follows no_site no_call left =
+      subst (λ (x : Found). FoundLeft count next x total) (both-nothing front)
+        (found_go_on count pc next front nothing total lt later (rw follows refl) (found_nothing pc (count + length front.sites) no_site no_call) left)
+
   pub next_fails : (count pc : ℕ) (front : Found) (fault : ClassFault) (total : Result Found ClassFault) → pc < length code
       → at_opcode (begin + pc) (next_at code pc) ≡ Err fault → FoundLeft count pc front total → total ≡ Err fault
   next_fails count pc front fault total lt broken left =

@@ -1,8 +1,10 @@
 -- The first indexes of texts.
-use Rattle.std.proofs.Common.{◌≡◌, ◌⊎◌, inl, inr, ℕ, List, Bool, true, false, cond, get_or, nat_eq, ◌==◌, ◌<◌, length, slice_set, refl, sym, ap, ◌∙◌}
+use Rattle.std.proofs.Common.{◌≡◌, ◌⊎◌, inl, inr, ℕ, List, Bool, true, false, cond, get_or, nat_eq, ◌==◌, ◌&&◌, ◌<◌, length, slice_set, refl, sym, ap, ◌∙◌}
 use Rattle.std.specs.Prelude.{Some, None, Ok}
 use Rattle.std.specs.Bool.{Decides}
-use Rattle.std.specs.Ordering.{is_eq, nat_cmp}
+use Rattle.std.specs.Ordering.{is_eq, nat_cmp, ordering_then}
+use Rattle.std.specs.declared.cmp.Ordering.{Ordering}
+use Rattle.std.specs.declared.cmp.Ordering.TheVariants.{Less, Equal, Greater}
 use Rattle.std.specs.Cmp.{unsigned_ties}
 use Rattle.std.specs.Cmp.Lexicographic.{pointwise, slice_cmp, texts_ties}
 use Rattle.std.proofs.lemmas.Bool.Decides.{Decides-eqb, not_from_Decides, same_from_decides}
@@ -12,7 +14,7 @@ use Rattle.fcg_views.specs.Breaks.Pool.{Entries, text_of}
 use Rattle.std.proofs.lemmas.Option.{none-some}
 use Rattle.fcg_grammar.proofs.Standing.{ok_is}
 use Rattle.fcg_laws.proofs.WordLaws.{same_text}
-use Rattle.fcg_class.specs.Firsts.{Known, first_in, AreKnown, Grows, AreFirsts}
+use Rattle.fcg_class.specs.Firsts.{Known, text_cmp, first_in, AreKnown, Grows, AreFirsts}
 
 pub some_is : (a b : ℕ) → Some a ≡ Some b → a ≡ b
 some_is a b e = cc
@@ -41,10 +43,31 @@ one_text pool known are i p q at_p at_q = ok_is p q (sym (are p i at_p) ∙ are 
 
 -- the map has this text now, by this index
 abbrev pub Adds : Known → Known → List ℕ → ℕ → Type 0
-Adds old new here index = (t : List ℕ) → first_in new t ≡ cond (is_eq (slice_cmp nat_cmp here t)) (Some index) (first_in old t)
+Adds old new here index = (t : List ℕ) → first_in new t ≡ cond (is_eq (text_cmp (length here, here) (length t, t))) (Some index) (first_in old t)
+
+pub both_equal : (a b : Ordering) → is_eq (ordering_then a b) ≡ (is_eq a && is_eq b)
+both_equal Less b = refl
+both_equal Equal b = refl
+both_equal Greater b = refl
+
+-- texts of one order are the same
+text_ties : (s t : List ℕ) → is_eq (text_cmp (length s, s) (length t, t)) ≡ pointwise nat_eq s t
+text_ties s t =
+    both_equal (nat_cmp (length s) (length t)) (slice_cmp nat_cmp s t)
+      ∙ rw (← unsigned_ties (length s) (length t), ← texts_ties s t) (split (at_bool (pointwise nat_eq s t)))
+  where
+    split : (pointwise nat_eq s t ≡ true) ⊎ (pointwise nat_eq s t ≡ false) → (length s == length t && pointwise nat_eq s t) ≡ pointwise nat_eq s t
+    split (inl same) =
+        let lengths : (length s == length t) ≡ true = (Decides-eqb (length s) (length t)).1 (ap (λ (u : List ℕ). length u) ((same_text s t).0 same)) in
+        rw (lengths, same) refl
+    split (inr other) = rw other (none (length s == length t))
+      where
+        none : (b : Bool) → (b && false) ≡ false
+        none true = refl
+        none false = refl
 
 after : (old new : Known) (here : List ℕ) (index : ℕ) → Adds old new here index → (t : List ℕ) → first_in new t ≡ cond (pointwise nat_eq here t) (Some index) (first_in old t)
-after old new here index adds t = adds t ∙ rw (← texts_ties here t) refl
+after old new here index adds t = adds t ∙ rw (text_ties here t) refl
 
 pub added_first : (old new : Known) (here : List ℕ) (index : ℕ) → Adds old new here index → first_in new here ≡ Some index
 added_first old new here index adds = after old new here index adds here ∙ rw ((same_text here here).1 refl) refl

@@ -2,9 +2,7 @@
 use Rattle.std.proofs.Common.{◌≡◌, ◌⊎◌, inl, inr, ℕ, List, [], ◌∷◌, ◌++◌, Bool, true, false, cond, nat_eq, ◌&&◌, ◌||◌, ◌-◌, ◌+◌, ◌<◌, ◌≤◌, length, refl, sym, ap, subst, ◌∙◌}
 use Rattle.std.specs.Prelude.{codes, Result, Ok, Err, Option, Some, None}
 use Rattle.std.specs.List.{list_any}
-use Rattle.std.specs.Ordering.{is_eq, nat_cmp, ordering_then}
-use Rattle.std.specs.declared.cmp.Ordering.{Ordering}
-use Rattle.std.specs.declared.cmp.Ordering.TheVariants.{Less, Equal, Greater}
+use Rattle.std.specs.Ordering.{is_eq, nat_cmp}
 use Rattle.std.specs.Cmp.{unsigned_ties}
 use Rattle.std.specs.Cmp.Lexicographic.{pointwise}
 use Rattle.std.specs.BTreeSet as tree
@@ -32,14 +30,9 @@ use Rattle.fcg_views.specs.Breaks.Code.{code_at}
 use Rattle.fcg_views.specs.Breaks.Members.{Declared, Unfinished, Begun, unfinished, declared_at, method_at}
 use Rattle.fcg_class.specs.Members.{begun, GivesNext}
 use Rattle.fcg_laws.proofs.WordLaws.{same_text}
-use Rattle.fcg_class.proofs.FirstLemmas.{same_first, one_text, at_bool}
+use Rattle.fcg_class.proofs.FirstLemmas.{same_first, one_text, at_bool, both_equal}
 use Rattle.fcg_class.specs.Firsts.{Known, first_in, AreKnown, Grows, AreAsked}
 use Rattle.fcg_class.specs.Methods.{Signature, signature_cmp, is_signature, methods_of, has_both, AreSignatures, AreOfTexts, AllOfTexts, IsTable}
-
-both_equal : (a b : Ordering) → is_eq (ordering_then a b) ≡ (is_eq a && is_eq b)
-both_equal Less b = refl
-both_equal Equal b = refl
-both_equal Greater b = refl
 
 -- ---- the map of the first indexes grows
 

@@ -1,19 +1,24 @@
 -- The first indexes of a pool's texts, of those that were asked for.
-use Rattle.std.specs.Prelude.{◌≡◌, ℕ, List, slice_index_or, Option, Some, Ok}
+use Rattle.std.specs.Prelude.{◌≡◌, ℕ, List, length, slice_index_or, Option, Some, Ok}
 use Rattle.std.specs.Borrow.{Bor}
-use Rattle.std.specs.Ordering.{nat_cmp}
+use Rattle.std.specs.Ordering.{nat_cmp, ordering_then}
+use Rattle.std.specs.declared.cmp.Ordering.{Ordering}
 use Rattle.std.specs.Cmp.Lexicographic.{slice_cmp}
 use Rattle.std.specs.BTreeMap as tree
 use Rattle.std.specs.BTreeMap.{BTreeMap}
 use Rattle.fcg_views.specs.Breaks.Pool.{Entries, text_of}
 
--- texts, and for each an index of it
+-- texts with their lengths, and for each an index of it
 abbrev pub Known : Type 0
-Known = BTreeMap (Bor (List ℕ)) ℕ
+Known = BTreeMap (ℕ × Bor (List ℕ)) ℕ
+
+-- the order of texts by their lengths, and of those of one length by their bytes
+abbrev pub text_cmp : ℕ × List ℕ → ℕ × List ℕ → Ordering
+text_cmp x y = ordering_then (nat_cmp x.0 y.0) (slice_cmp nat_cmp x.1 y.1)
 
 -- the index that a map has for a text
 abbrev pub first_in : Known → List ℕ → Option ℕ
-first_in known text = tree.get_by (λ key. slice_cmp nat_cmp text key.now) known
+first_in known text = tree.get_by (λ key. text_cmp (length text, text) (key.0, key.1.now)) known
 
 -- what a map has is an index of the text
 abbrev pub AreKnown : Entries → Known → Type 0

@@ -15,7 +15,7 @@ use crate::names::ClassNames;
 use crate::number::{read_part, read_u2, read_u4};
 use crate::site::{CodeSpan, SiteOrCall, read_site_or_call};
 use fcg_grammar::ReadError;
-use fcg_pool::{Instruction, next_instruction};
+use fcg_pool::{Instruction, next_instruction, plain_len};
 use fcg_views::{ClassFault, ClassRule, DynamicCall, Site, Sites, at_opcode, fault_at};
 use std::alloc::{AllocError, Global};
 use std::marker::Model;
@@ -117,7 +117,8 @@ fn push_found(
     Ok(())
 }
 
-// What the instructions of a code have, where so many sites of the class are before.
+// What the instructions of a code have, where so many sites of the class are before. Most have nothing, and are passed
+// over.
 fn read_found(
     alloc: Global,
     names: &mut ClassNames<'_>,
@@ -137,11 +138,16 @@ fn read_found(
     let mut calls = Vec::new(alloc);
     let mut pc = 0;
     while pc < code.bytes.len() {
-        let instruction = read_instruction(code, pc as u16)?;
-        let before = count + sites.len();
-        let found = read_site_or_call(names, code, pc as u16, instruction, before)?;
-        push_found(&mut sites, &mut calls, found)?;
-        pc = instruction.next as usize;
+        let plain = plain_len(code.bytes, pc);
+        if plain > 0 {
+            pc += plain;
+        } else {
+            let instruction = read_instruction(code, pc as u16)?;
+            let before = count + sites.len();
+            let found = read_site_or_call(names, code, pc as u16, instruction, before)?;
+            push_found(&mut sites, &mut calls, found)?;
+            pc = instruction.next as usize;
+        }
     }
     sites.shrink_to_fit();
     Ok((sites, calls))

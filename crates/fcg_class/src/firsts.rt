@@ -13,7 +13,8 @@ use std::collections::BTreeMap;
 #[derive(Drop)]
 pub struct FirstTexts<'a> {
     pub pool: &'a Pool<'a>,
-    pub known: BTreeMap<&'a [u8], u16>,
+    // by the length first, which tells most texts apart without a look at their bytes
+    pub known: BTreeMap<(usize, &'a [u8]), u16>,
     /// By the index of a Utf8 the first index of its text, or 0 where the Utf8 wasn't added.
     pub firsts: Vec<u16>,
 }
@@ -35,7 +36,7 @@ impl<'a> FirstTexts<'a> {
 
     /// The first index of a text, where the text was added. Of a Utf8 that was added it takes constant time, of another
     /// a logarithm of the number of texts in comparisons, each as long as the text at most.
-    pub fn find(&self, text: &Text<'_>) -> Option<u16>
+    pub fn find(&self, text: &Text<'a>) -> Option<u16>
         requires asked { AreAsked self.now.pool.now self.now.known self.now.firsts.items }
         requires text { text_of self.now.pool.now text.now.index ≡ Ok text.now.bytes.now }
         ensures { result ≡ first_in self.now.known text.now.bytes.now }
@@ -75,7 +76,7 @@ impl<'a> FirstTexts<'a> {
         if let Some(first) = self.find(text) {
             return Ok(first);
         }
-        self.known.insert(text.bytes, text.index)?;
+        self.known.insert((text.bytes.len(), text.bytes), text.index)?;
         Ok(text.index)
     }
 
@@ -114,10 +115,10 @@ fn first_of(firsts: &[u16], index: u16) -> u16
 }
 
 // The index that a map has for a text.
-fn find_known(known: &BTreeMap<&[u8], u16>, text: &[u8]) -> Option<u16>
+fn find_known<'a>(known: &BTreeMap<(usize, &'a [u8]), u16>, text: &'a [u8]) -> Option<u16>
     ensures { result ≡ first_in known.now text.now }
 {
-    match known.get(text) {
+    match known.get(&(text.len(), text)) {
         Some(first) => Some(*first),
         None => None,
     }

@@ -215,16 +215,13 @@ pub fn read_site_of(
     })
 }
 
-// Whether an opcode has no site and calls no bootstrap method, as most.
-fn names_nothing(opcode: u8) -> bool
-    ensures { IsTrue result → (is_dynamic opcode ≡ false) × (site_form opcode ≡ None) }
-{
-    opcode < 178 || 187 < opcode
-}
-
-// The site or the call of an instruction, as `read_site_or_call` gives it.
+/// The site or the call of a bootstrap method that the instruction whose opcode stands at a place of the code has.
+/// `count` is the number of sites of the class before it.
+///
+/// A fault is at the place of the opcode in the file: that of the site, or of the operand of `invokedynamic`, which
+/// names no InvokeDynamic.
 #[tactic(auto, unfolding(fcg_views::specs::Breaks::Code::found_at))]
-fn read_named(
+pub fn read_site_or_call(
     names: &mut ClassNames<'_>,
     code: CodeSpan<'_>,
     pc: u16,
@@ -249,30 +246,4 @@ fn read_named(
     };
     let site = read_site_of(names, form, at, pc, operand, count)?;
     Ok(SiteOrCall::Site(site))
-}
-
-/// The site or the call of a bootstrap method that the instruction whose opcode stands at a place of the code has.
-/// `count` is the number of sites of the class before it.
-///
-/// A fault is at the place of the opcode in the file: that of the site, or of the operand of `invokedynamic`, which
-/// names no InvokeDynamic.
-#[tactic(auto, unfolding(fcg_views::specs::Breaks::Code::found_at))]
-pub fn read_site_or_call(
-    names: &mut ClassNames<'_>,
-    code: CodeSpan<'_>,
-    pc: u16,
-    instruction: Instruction,
-    count: usize,
-) -> Result<SiteOrCall, ReadError<ClassFault>>
-    requires place { code.begin + pc < 2 ^ 64 }
-    requires opcode { instruction.opcode ≡ slice_index code.bytes.now pc }
-    requires operand { instruction.operand ≡ operand_at code.bytes.now pc }
-    ensures value { Gives found_in result (found_at names.old code.entry.begin code.entry.bytes.now pc count) }
-    ensures placed { IfOk result (λ x. ArePlaced code.entry.begin (found_in x).calls) }
-    ensures same { names.new ≡ names.old }
-{
-    if names_nothing(instruction.opcode) {
-        return Ok(SiteOrCall::Nothing);
-    }
-    read_named(names, code, pc, instruction, count)
 }

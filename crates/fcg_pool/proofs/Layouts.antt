@@ -1,10 +1,17 @@
 -- The table of what follows opcodes, opcode by opcode.
-use Rattle.std.proofs.Common.{◌≡◌, ℕ, ◌<◌, ◌∙◌, List, map, get_or, refl, sym, ap, arith}
-use Rattle.std.specs.Prelude.{None}
+use Rattle.std.proofs.Common.{◌≡◌, ℕ, suc, ◌+◌, ◌-◌, ◌<◌, ◌≤◌, ◌∙◌, List, length, map, get_or, Bool, true, false, ltb, ◌||◌, refl, sym, ap, arith}
+use Rattle.std.specs.Prelude.{Option, Some, None, Ok, is_some, nat_le, nat_lt}
 use Rattle.std.specs.List.{range_with_len}
+use Rattle.fcg_grammar.specs.Number.{part_at}
 use Rattle.std.proofs.lemmas.List.{get_or-map}
 use Rattle.std.proofs.lemmas.List.FromFn.{get_or-map-range_with_len}
-use Rattle.fcg_views.specs.Instructions.{form_of}
+use Rattle.std.proofs.lemmas.Bool.{le-ltb}
+use Rattle.std.proofs.lemmas.Bool.Decides.{nat_tests}
+use Rattle.fcg_views.specs.declared.code.CodeRule.{CodeRule}
+use Rattle.fcg_views.specs.Instructions.{Form, form_of, Fixed}
+use Rattle.fcg_views.specs.Sites.{SiteForm, site_form, is_dynamic}
+use Rattle.fcg_views.specs.Breaks.Instructions.{passed, formed_at, next_at}
+use Rattle.fcg_views.proofs.InstructionPlaces.{next_at_is}
 use Rattle.fcg_pool.specs.Layout.{form_told}
 use Rattle.fcg_pool.specs.declared.instruction.TheConstants.{LAYOUTS}
 
@@ -14,3 +21,56 @@ all_told = refl
 pub layout_told : (opcode : ℕ) → opcode < 256 → form_told (get_or LAYOUTS opcode 0) ≡ form_of opcode
 layout_told opcode lt =
     sym (get_or-map form_told LAYOUTS opcode 0 None lt) ∙ ap (λ forms. get_or forms opcode None) all_told ∙ get_or-map-range_with_len form_of 0 256 opcode opcode None lt (omega arith)
+
+-- ---- the opcodes without a site or a call
+
+abbrev names : ℕ → Bool
+names op = is_some (site_form op) || is_dynamic op
+
+all_numbered : map (λ n. nat_lt 8 n) LAYOUTS ≡ map names (range_with_len 0 256)
+all_numbered = refl
+
+numbered : (opcode : ℕ) → opcode < 256 → nat_lt 8 (get_or LAYOUTS opcode 0) ≡ names opcode
+numbered opcode lt =
+    sym (get_or-map (λ n. nat_lt 8 n) LAYOUTS opcode 0 false lt) ∙ ap (λ tests. get_or tests opcode false) all_numbered ∙ get_or-map-range_with_len names 0 256 opcode opcode false lt (omega arith)
+
+unnamed : (opcode : ℕ) → opcode < 256 → get_or LAYOUTS opcode 0 < 5 → names opcode ≡ false
+unnamed opcode lt few = sym (numbered opcode lt) ∙ small (get_or LAYOUTS opcode 0) few
+  where
+    small : (n : ℕ) → n < 5 → nat_lt 8 n ≡ false
+    small n lt = grind (arith, nat_tests)
+
+neither : (form : Option SiteForm) (dynamic : Bool) → (is_some form || dynamic) ≡ false → (form ≡ None) × (dynamic ≡ false)
+neither None false e = (refl, refl)
+neither None true e = absurd cc
+neither (Some form) dynamic e = absurd cc
+
+pub plain_site : (opcode : ℕ) → opcode < 256 → get_or LAYOUTS opcode 0 < 5 → site_form opcode ≡ None
+plain_site opcode lt few = (neither (site_form opcode) (is_dynamic opcode) (unnamed opcode lt few)).0
+
+pub plain_call : (opcode : ℕ) → opcode < 256 → get_or LAYOUTS opcode 0 < 5 → is_dynamic opcode ≡ false
+plain_call opcode lt few = (neither (site_form opcode) (is_dynamic opcode) (unnamed opcode lt few)).1
+
+-- ---- the instructions after which their opcodes tell the place
+
+told_fixed : (n : ℕ) → n < 5 → form_told n ≡ Some (Fixed n)
+told_fixed n lt = rw (small n lt) refl
+  where
+    small : (n : ℕ) → n < 5 → nat_le n 4 ≡ true
+    small n lt = grind (arith, nat_tests)
+
+passed_whole : (code : List ℕ) (at n : ℕ) → at + n ≤ length code → passed code at n ≡ Ok (at + n)
+unfolding passed part_at
+passed_whole code at n le =
+    let within : ltb (length code) (at + n) ≡ false = le-ltb _ _ le in
+    rw within refl
+
+pub plain_next : (code : List ℕ) (at : ℕ) → at < length code → get_or code at 0 < 256 → get_or LAYOUTS (get_or code at 0) 0 < 5 → get_or LAYOUTS (get_or code at 0) 0 < length code - at
+    → next_at code at ≡ Ok (at + (get_or LAYOUTS (get_or code at 0) 0 + 1))
+plain_next code at lt byte few room =
+    let n = get_or LAYOUTS (get_or code at 0) 0 in
+    let sum : at + 1 + n ≡ at + (n + 1) = omega arith in
+    next_at_is code at lt
+    ∙ ap (λ (form : Option Form). formed_at code at form) (sym (layout_told (get_or code at 0) byte) ∙ told_fixed n few)
+    ∙ passed_whole code (at + 1) n (omega (arith, room, lt))
+    ∙ ap (λ (m : ℕ). Ok m) sum

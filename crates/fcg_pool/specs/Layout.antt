@@ -18,4 +18,4 @@ form_seen (Some layout) = Some (form_in layout)
 abbrev pub form_told : ℕ → Option Form
 form_told n =
     if nat_le n 4 then Some (Fixed n)
-    else (if n == 5 then Some Table else (if n == 6 then Some Lookup else (if n == 7 then Some Wide else None)))
+    else (if n == 5 then Some Table else (if n == 6 then Some Lookup else (if n == 7 then Some Wide else (if n == 9 then Some (Fixed 2) else (if n == 10 then Some (Fixed 4) else None)))))

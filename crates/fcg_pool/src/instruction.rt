@@ -1,7 +1,8 @@
 //! One instruction at a time.
-ghost use Rattle.std.specs.Prelude.{◌≡◌, ◌+◌, ◌<◌, ◌≤◌, ◌^◌, length, slice_index, IfOk, IsOk};
+ghost use Rattle.std.specs.Prelude.{◌≡◌, ◌+◌, ◌<◌, ◌≤◌, ◌^◌, length, slice_index, false, None, Ok, IfOk, IsOk};
 ghost use Rattle.fcg_grammar.specs.Reading.{seen};
 ghost use Rattle.fcg_views.specs.Instructions.{form_of, wide_of, moved_up, pad_of};
+ghost use Rattle.fcg_views.specs.Sites.{site_form, is_dynamic};
 ghost use Rattle.fcg_views.specs.Breaks.Instructions.{passed, table_at, lookup_at, wide_at, formed_at, next_at, operand_in, operand_at};
 ghost use Rattle.fcg_pool.specs.Layout.{form_seen, form_told};
 ghost use Rattle.fcg_pool.specs.declared.instruction.TheConstants.{LAYOUTS};
@@ -31,16 +32,18 @@ enum Layout {
 }
 
 // What follows an opcode, by a number: so many bytes from 0 to 4, what a tableswitch has by 5, what a lookupswitch has
-// by 6, an instruction that is made wide by 7. Nothing has the opcodes from 202 on, by 8.
+// by 6, an instruction that is made wide by 7. Nothing has the opcodes from 202 on, by 8. Those with a site or a call of
+// a bootstrap method have a number of their own: 9 for two bytes, 10 for four.
 static LAYOUTS: [u8; 256] = [
     0, 0, 0, 0, 0, 0, 0, 0, 0, 0, 0, 0, 0, 0, 0, 0, 1, 2, 1, 2, 2, 1, 1, 1, 1, 1, 0, 0, 0, 0, 0, 0,
     0, 0, 0, 0, 0, 0, 0, 0, 0, 0, 0, 0, 0, 0, 0, 0, 0, 0, 0, 0, 0, 0, 1, 1, 1, 1, 1, 0, 0, 0, 0, 0,
     0, 0, 0, 0, 0, 0, 0, 0, 0, 0, 0, 0, 0, 0, 0, 0, 0, 0, 0, 0, 0, 0, 0, 0, 0, 0, 0, 0, 0, 0, 0, 0,
     0, 0, 0, 0, 0, 0, 0, 0, 0, 0, 0, 0, 0, 0, 0, 0, 0, 0, 0, 0, 0, 0, 0, 0, 0, 0, 0, 0, 0, 0, 0, 0,
     0, 0, 0, 0, 2, 0, 0, 0, 0, 0, 0, 0, 0, 0, 0, 0, 0, 0, 0, 0, 0, 0, 0, 0, 0, 2, 2, 2, 2, 2, 2, 2,
-    2, 2, 2, 2, 2, 2, 2, 2, 2, 1, 5, 6, 0, 0, 0, 0, 0, 0, 2, 2, 2, 2, 2, 2, 2, 4, 4, 2, 1, 2, 0, 0,
-    2, 2, 0, 0, 7, 3, 2, 2, 4, 4, 8, 8, 8, 8, 8, 8, 8, 8, 8, 8, 8, 8, 8, 8, 8, 8, 8, 8, 8, 8, 8, 8,
+    2, 2, 2, 2, 2, 2, 2, 2, 2, 1, 5, 6, 0, 0, 0, 0, 0, 0, 9, 9, 2, 2, 9, 9, 9, 10, 10, 9, 1, 2, 0,
+    0, 2, 2, 0, 0, 7, 3, 2, 2, 4, 4, 8, 8, 8, 8, 8, 8, 8, 8, 8, 8, 8, 8, 8, 8, 8, 8, 8, 8, 8, 8, 8,
     8, 8, 8, 8, 8, 8, 8, 8, 8, 8, 8, 8, 8, 8, 8, 8, 8, 8, 8, 8, 8, 8, 8, 8, 8, 8, 8, 8, 8, 8, 8, 8,
+    8,
 ];
 
 // The number of what follows an opcode.
@@ -59,6 +62,8 @@ fn layout_told(number: u8) -> Option<Layout>
         5 => Some(Layout::Table),
         6 => Some(Layout::Lookup),
         7 => Some(Layout::Wide),
+        9 => Some(Layout::Fixed(2)),
+        10 => Some(Layout::Fixed(4)),
         _ => None,
     }
 }
@@ -211,4 +216,23 @@ pub fn next_instruction(code: &[u8], pc: u16) -> Result<Instruction, CodeRule>
         operand,
         next: next as u32,
     })
+}
+
+/// How many bytes the instruction has whose opcode stands at a place of a method's code, where the opcode tells it, and
+/// where it has neither a site nor a call of a bootstrap method: with most instructions it is so. It is 0 for any other,
+/// and where the instruction passes the code's end. It takes no memory and a few steps.
+#[tactic(auto, using(crate::proofs::Layouts::plain_next, crate::proofs::Layouts::plain_site, crate::proofs::Layouts::plain_call))]
+pub fn plain_len(code: &[u8], at: usize) -> usize
+    requires { at < length code.now }
+    ensures next { 0 < result → next_at code.now at ≡ Ok (at + result) }
+    ensures site { 0 < result → site_form (slice_index code.now at) ≡ None }
+    ensures call { 0 < result → is_dynamic (slice_index code.now at) ≡ false }
+    ensures inside { at + result ≤ length code.now }
+{
+    let operands = usize::from(layout_number(code[at]));
+    if operands < 5 && operands < code.len() - at {
+        operands + 1
+    } else {
+        0
+    }
 }

@@ -16,5 +16,5 @@ mod tests;
 pub use check::is_one_of;
 pub use fcg_views::{CodeRule, PoolFault, PoolRule};
 pub use groups::find_bad_group;
-pub use instruction::{Instruction, next_instruction};
+pub use instruction::{Instruction, next_instruction, plain_len};
 pub use pool::{Pool, RefSpan, RefTexts};

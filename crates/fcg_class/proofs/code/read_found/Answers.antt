@@ -3,7 +3,7 @@ use Rattle.std.proofs.lemmas.Result.{err_from_is_err_and}
 use Rattle.std.proofs.lemmas.List.{length-append}
 use Rattle.std.proofs.lemmas.List.Elements.{All-append}
 use Rattle.fcg_class.specs.Sites.{found_in}
-use Rattle.fcg_class.proofs.CodeLemmas.{found_begin, found_go_on, found_counted, next_fails, found_fails, found_done}
+use Rattle.fcg_class.proofs.CodeLemmas.{found_begin, found_go_on, found_pass, found_counted, next_fails, found_fails, found_done}
 use Rattle.fcg_class.proofs.code.read_found.Goals as goal
 
 pub loop-pc-init : goal.loop-pc-init
@@ -43,3 +43,16 @@ loop-pc-preserved c =
 
 pub returns-clause-value : goal.returns-clause-value
 returns-clause-value c = rw c.shrink_to_fit.ensures.items (found_done c.args.names.now c.args.code.begin c.args.code.bytes.now c.args.count c.loop-pc.pc _ _ c.loop-pc-test.false c.loop-pc.invariant.1 c.loop-pc.invariant.0)
+
+pub loop-pc-preserved-then-plain-gt0 : goal.loop-pc-preserved-then-plain-gt0
+loop-pc-preserved-then-plain-gt0 c =
+    let inv = c.loop-pc.invariant in
+    let plain = c.plain_len-plain.ensures in
+    let some = c.if-plain-gt0.true in
+    (
+      found_pass c.args.names.now c.args.code.begin c.args.code.bytes.now c.args.count c.loop-pc.pc _ _ _ c.loop-pc-test.true (omega (arith, some)) (plain.next some) (plain.site some) (plain.call some) inv.0,
+      plain.inside,
+      inv.2,
+      inv.3,
+      inv.4,
+    )

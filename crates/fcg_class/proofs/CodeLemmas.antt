@@ -117,7 +117,7 @@ module _ (pool : Entries) (begin : ℕ) (code : List ℕ) where
       → site_form (get_or code pc 0) ≡ None → is_dynamic (get_or code pc 0) ≡ false → FoundLeft count pc front total → FoundLeft count next front total
   found_pass count pc next front total lt later follows no_site no_call left =
       subst (λ (x : Found). FoundLeft count next x total) (both-nothing front)
-        (found_go_on count pc next front nothing total lt later (rw follows refl) (found_nothing pc (count + length front.sites) no_site no_call) left)
+      (found_go_on count pc next front nothing total lt later (rw follows refl) (found_nothing pc (count + length front.sites) no_site no_call) left)
 
   pub next_fails : (count pc : ℕ) (front : Found) (fault : ClassFault) (total : Result Found ClassFault) → pc < length code
       → at_opcode (begin + pc) (next_at code pc) ≡ Err fault → FoundLeft count pc front total → total ≡ Err fault

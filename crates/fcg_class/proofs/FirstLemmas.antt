@@ -54,7 +54,7 @@ both_equal Greater b = refl
 text_ties : (s t : List ℕ) → is_eq (text_cmp (length s, s) (length t, t)) ≡ pointwise nat_eq s t
 text_ties s t =
     both_equal (nat_cmp (length s) (length t)) (slice_cmp nat_cmp s t)
-      ∙ rw (← unsigned_ties (length s) (length t), ← texts_ties s t) (split (at_bool (pointwise nat_eq s t)))
+    ∙ rw (← unsigned_ties (length s) (length t), ← texts_ties s t) (split (at_bool (pointwise nat_eq s t)))
   where
     split : (pointwise nat_eq s t ≡ true) ⊎ (pointwise nat_eq s t ≡ false) → (length s == length t && pointwise nat_eq s t) ≡ pointwise nat_eq s t
     split (inl same) =

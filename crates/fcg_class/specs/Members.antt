@@ -5,7 +5,8 @@ use Rattle.fcg_grammar.specs.Reading.{Fails}
 use Rattle.fcg_views.specs.declared.view.Site.{Site}
 use Rattle.fcg_views.specs.declared.fault.ClassFault.{ClassFault}
 use Rattle.fcg_views.specs.Sites.{Found}
-use Rattle.fcg_views.specs.Breaks.Pool.{Entries, text_of}
+use Rattle.fcg_pool.specs.Seen.{IsTextOf}
+use Rattle.fcg_views.specs.Breaks.Pool.{Entries}
 use Rattle.fcg_views.specs.Breaks.Attributes.{OneBegun}
 use Rattle.fcg_views.specs.Breaks.Members as members
 use Rattle.fcg_views.specs.Breaks.Members.{Unfinished, Begun}
@@ -17,9 +18,9 @@ use Rattle.fcg_class.specs.Methods.{methods_of}
 abbrev pub declared_of : Declared → members.Declared
 declared_of d = record { flags = d.flags; name = d.name.bytes.now; desc = d.desc.bytes.now }
 
--- its texts are those of their indexes
+-- its texts are those of their indexes and places
 abbrev pub AreTextsOf : Entries → Declared → Type 0
-AreTextsOf pool d = (text_of pool d.name.index ≡ Ok d.name.bytes.now) × (text_of pool d.desc.index ≡ Ok d.desc.bytes.now)
+AreTextsOf pool d = IsTextOf pool d.name × IsTextOf pool d.desc
 
 -- the attributes of a method of which the next stands at a place, with the code so far
 abbrev pub code_begun : ℕ → Option (ℕ × Found) → OneBegun Found

@@ -31,4 +31,4 @@ form_seen (Some form) = Some (form_in form)
 
 -- the member that a reference of the pool names
 abbrev pub ref_of : RefTexts → Ref
-ref_of x = record { owner = x.span.owner.now; owner_is_interface_ref = x.span.tag == 11; name = x.span.name.now; desc = x.span.desc.now }
+ref_of x = record { owner = x.owner.bytes.now; owner_is_interface_ref = x.tag == 11; name = x.name.bytes.now; desc = x.desc.bytes.now }

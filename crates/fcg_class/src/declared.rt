@@ -7,7 +7,8 @@ ghost use Rattle.fcg_class.specs.Members.{declared_of, AreTextsOf};
 
 use crate::names::{ClassNames, DescKind};
 use crate::number::read_u2;
-use crate::text::{Text, find_text};
+use crate::text::find_text;
+use fcg_pool::Text;
 use fcg_views::{ClassFault, ClassRule, fault_at};
 
 /// What the row of a field or a method declares.

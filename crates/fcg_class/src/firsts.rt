@@ -4,8 +4,7 @@ ghost use Rattle.std.specs.BTreeMap.{IsEmpty};
 ghost use Rattle.fcg_views.specs.Breaks.Pool.{text_of};
 ghost use Rattle.fcg_class.specs.Firsts.{first_in, Grows, AreAsked, AllUnasked};
 
-use crate::text::Text;
-use fcg_pool::Pool;
+use fcg_pool::{Pool, Text};
 use std::alloc::{AllocError, Global};
 use std::collections::BTreeMap;
 
@@ -76,7 +75,8 @@ impl<'a> FirstTexts<'a> {
         if let Some(first) = self.find(text) {
             return Ok(first);
         }
-        self.known.insert((text.bytes.len(), text.bytes), text.index)?;
+        self.known
+            .insert((text.bytes.len(), text.bytes), text.index)?;
         Ok(text.index)
     }
 

@@ -7,8 +7,7 @@ ghost use Rattle.fcg_class.specs.Methods.{is_signature, methods_of};
 
 use crate::calls::Unfinished;
 use crate::firsts::FirstTexts;
-use crate::text::Text;
-use fcg_pool::Pool;
+use fcg_pool::{Pool, Text};
 use std::alloc::{AllocError, Global};
 use std::collections::BTreeSet;
 use std::marker::Model;

@@ -1,10 +1,10 @@
 //! The texts of a class file: the names of all share one copy of its bytes, and a descriptor is read once.
 ghost use Rattle.std.specs.Prelude.{◌≡◌, Ok, IfOk, []};
 ghost use Rattle.fcg_views.specs.Breaks.Pool.{text_of};
+ghost use Rattle.fcg_pool.specs.Seen.{IsTextOf};
 ghost use Rattle.fcg_class.specs.Names.{AllUntyped, is_of_kind, descs};
 
-use crate::text::Text;
-use fcg_pool::Pool;
+use fcg_pool::{Pool, Text};
 use fcg_views::{Name, NoMemory, read_descriptor, read_field_descriptor};
 use std::alloc::{AllocError, Global};
 use std::marker::Model;
@@ -72,13 +72,10 @@ impl<'a> ClassNames<'a> {
 
     /// The name of a text. It takes constant time.
     pub fn name(&self, text: &Text<'_>) -> Result<Name, AllocError>
-        requires { text_of self.now text.now.index ≡ Ok text.now.bytes.now }
+        requires { IsTextOf self.now text.now }
         ensures { IfOk result (λ name. name ≡ text.now.bytes.now) }
     {
-        match self.pool.utf8_place(text.index) {
-            Ok((begin, len)) => self.file.part(begin, len),
-            Err(_) => unreachable!(),
-        }
+        self.file.part(text.at, text.bytes.len())
     }
 
     /// Whether a text is a descriptor of a kind. One that is is read once, however often it is asked for.

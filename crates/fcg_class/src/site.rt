@@ -11,7 +11,7 @@ ghost use Rattle.fcg_class.specs.Calls.{ArePlaced};
 ghost use Rattle.fcg_class.specs.Sites.{found_in, form_in, form_seen, target_in, ref_of};
 
 use crate::names::{ClassNames, DescKind};
-use crate::text::{Text, find_type_of};
+use crate::text::find_type_of;
 use fcg_grammar::ReadError;
 use fcg_pool::{Instruction, RefTexts, is_one_of};
 use fcg_views::{
@@ -92,17 +92,13 @@ fn find_member<'a>(
     ensures same { names.new ≡ names.old }
 {
     let member = at_index(at, index, names.pool().reference_texts(index))?;
-    if !is_one_of(tags, member.span.tag) {
+    if !is_one_of(tags, member.tag) {
         return Err(fault_at(at, index, ClassRule::WrongKind));
     }
-    if member.span.owner.is_empty() || member.span.name.is_empty() {
+    if member.owner.bytes.is_empty() || member.name.bytes.is_empty() {
         return Err(fault_at(at, 0, ClassRule::EmptyName));
     }
-    let desc = Text {
-        index: member.desc,
-        bytes: member.span.desc,
-    };
-    if !names.is_descriptor(kind, &desc) {
+    if !names.is_descriptor(kind, &member.desc) {
         return Err(fault_at(at, 0, ClassRule::Descriptor));
     }
     Ok(member)
@@ -114,23 +110,11 @@ fn make_ref(names: &mut ClassNames<'_>, member: &RefTexts<'_>) -> Result<Ref, No
     ensures ok { IfOk result (λ target. target ≡ ref_of member.now) }
     ensures same { names.new ≡ names.old }
 {
-    let owner = Text {
-        index: member.owner,
-        bytes: member.span.owner,
-    };
-    let name = Text {
-        index: member.name,
-        bytes: member.span.name,
-    };
-    let desc = Text {
-        index: member.desc,
-        bytes: member.span.desc,
-    };
     Ok(Ref {
-        owner: names.name(&owner)?,
-        owner_is_interface_ref: member.span.tag == 11,
-        name: names.name(&name)?,
-        desc: names.name(&desc)?,
+        owner: names.name(&member.owner)?,
+        owner_is_interface_ref: member.tag == 11,
+        name: names.name(&member.name)?,
+        desc: names.name(&member.desc)?,
     })
 }
 

@@ -1,33 +1,25 @@
 //! Texts that the items of a class file name.
-ghost use Rattle.std.specs.Prelude.{◌≡◌, ◌≤◌, ◌+◌, length, Ok, OnOk, IfOk};
+ghost use Rattle.std.specs.Prelude.{◌≡◌, ◌≤◌, ◌+◌, length, OnOk, IfOk};
 ghost use Rattle.fcg_grammar.specs.Reading.{seen};
-ghost use Rattle.fcg_views.specs.Breaks.Pool.{text_of};
+ghost use Rattle.fcg_pool.specs.Seen.{IsTextOf};
 ghost use Rattle.fcg_views.specs.Breaks.Names.{type_of};
 ghost use Rattle.fcg_views.specs.Breaks.Attributes.{over, text_at};
 ghost use Rattle.fcg_views.specs.Breaks.Class.{type_at};
 
 use crate::number::read_u2;
-use fcg_pool::Pool;
+use fcg_pool::{Pool, Text};
 use fcg_views::{ClassFault, ClassRule, at_index, fault_at};
-
-/// The text of a Utf8, and its index in the pool.
-#[derive(Clone, Copy)]
-pub struct Text<'a> {
-    pub index: u16,
-    pub bytes: &'a [u8],
-}
 
 /// The text whose index stands at a place of some bytes of the file.
 #[tactic(auto, using(crate::proofs::OverLemmas::text_over), unfolding(fcg_views::specs::Breaks::Attributes::text_at))]
 pub fn find_text<'a>(pool: &Pool<'a>, bytes: &[u8], at: usize) -> Result<Text<'a>, ClassFault>
     requires { at ≤ length bytes.now }
     ensures value { seen (λ text. text.bytes.now) result ≡ text_at (over bytes.now pool.now) at }
-    ensures named { IfOk result (λ text. text_of pool.now text.index ≡ Ok text.bytes.now) }
+    ensures named { IfOk result (IsTextOf pool.now) }
     ensures inside { OnOk result (at + 2 ≤ length bytes.now) }
 {
     let index = read_u2(bytes, at, 0)?;
-    let text = at_index(at, index, pool.utf8(index))?;
-    Ok(Text { index, bytes: text })
+    at_index(at, index, pool.text(index))
 }
 
 /// The name of the type whose index stands at a place, which has a byte or more.
@@ -35,7 +27,7 @@ pub fn find_text<'a>(pool: &Pool<'a>, bytes: &[u8], at: usize) -> Result<Text<'a
 pub fn find_type<'a>(pool: &Pool<'a>, at: usize) -> Result<Text<'a>, ClassFault>
     requires { at ≤ length pool.now.bytes }
     ensures value { seen (λ text. text.bytes.now) result ≡ type_at pool.now at }
-    ensures named { IfOk result (λ text. text_of pool.now text.index ≡ Ok text.bytes.now) }
+    ensures named { IfOk result (IsTextOf pool.now) }
     ensures inside { OnOk result (at + 2 ≤ length pool.now.bytes) }
 {
     let class = read_u2(pool.bytes(), at, 0)?;
@@ -47,12 +39,12 @@ pub fn find_type<'a>(pool: &Pool<'a>, at: usize) -> Result<Text<'a>, ClassFault>
 #[tactic(auto, unfolding(fcg_views::specs::Breaks::Names::type_of))]
 pub fn find_type_of<'a>(pool: &Pool<'a>, at: usize, class: u16) -> Result<Text<'a>, ClassFault>
     ensures value { seen (λ text. text.bytes.now) result ≡ type_of pool.now at class }
-    ensures named { IfOk result (λ text. text_of pool.now text.index ≡ Ok text.bytes.now) }
+    ensures named { IfOk result (IsTextOf pool.now) }
 {
     let index = at_index(at, class, pool.class_index(class))?;
-    let bytes = at_index(at, class, pool.utf8(index))?;
-    if bytes.is_empty() {
+    let text = at_index(at, class, pool.text(index))?;
+    if text.bytes.is_empty() {
         return Err(fault_at(at, 0, ClassRule::EmptyName));
     }
-    Ok(Text { index, bytes })
+    Ok(text)
 }

@@ -1,5 +1,6 @@
 -- The structs of the code, as those of the definition.
-use Rattle.std.specs.Prelude.{◌≡◌, ℕ, List, false, Option, Some, None, Result, Ok}
+use Rattle.std.specs.Prelude.{◌≡◌, ◌+◌, ◌≤◌, ℕ, List, length, false, Option, Some, None, Result, Ok}
+use Rattle.fcg_grammar.specs.Number.{part}
 use Rattle.fcg_grammar.specs.Reading.{◌>>=◌}
 use Rattle.fcg_views.specs.declared.fault.PoolRule.{PoolRule}
 use Rattle.fcg_views.specs.ClassFile.{Constant, Utf8, Plain, Named, Pair, Handle}
@@ -7,6 +8,7 @@ use Rattle.fcg_views.specs.Breaks.Pool as pool
 use Rattle.fcg_pool.specs.declared.entries.Next.{Next}
 use Rattle.fcg_pool.specs.declared.pool.Indexes.{Indexes}
 use Rattle.fcg_pool.specs.declared.pool.RefSpan.{RefSpan}
+use Rattle.fcg_pool.specs.declared.pool.Text.{Text}
 use Rattle.fcg_pool.specs.declared.pool.RefTexts.{RefTexts}
 
 abbrev pub next_of : Next → pool.Next
@@ -22,11 +24,19 @@ indexes_of x = record { tag = x.tag; first = x.first; second = x.second }
 abbrev pub span_of : RefSpan → pool.Reference
 span_of r = record { tag = r.tag; owner = r.owner.now; name = r.name.now; desc = r.desc.now }
 
--- the texts of a reference are those of the Utf8s at its indexes
+-- a text is that of the Utf8 at its index, and stands at its place in the file
+abbrev pub IsTextOf : pool.Entries → Text → Type 0
+IsTextOf p t =
+    (pool.text_of p t.index ≡ Ok t.bytes.now)
+    × (part p.bytes t.at (length t.bytes.now) ≡ t.bytes.now)
+    × (t.at + length t.bytes.now ≤ length p.bytes)
+
+-- so are those of a reference
 abbrev pub AreRefTexts : pool.Entries → RefTexts → Type 0
-AreRefTexts p x =
-    (pool.text_of p x.owner ≡ Ok x.span.owner.now) × (pool.text_of p x.name ≡ Ok x.span.name.now)
-    × (pool.text_of p x.desc ≡ Ok x.span.desc.now)
+AreRefTexts p x = IsTextOf p x.owner × IsTextOf p x.name × IsTextOf p x.desc
+
+abbrev pub texts_seen : RefTexts → pool.Reference
+texts_seen x = record { tag = x.tag; owner = x.owner.bytes.now; name = x.name.bytes.now; desc = x.desc.bytes.now }
 
 -- the name of the Class at an index
 abbrev pub class_name_of : pool.Entries → ℕ → Result (List ℕ) PoolRule

@@ -174,7 +174,7 @@ fn u2_in(bytes: &[u8], at: usize) -> u16
     u16::from(bytes[at]) * 256 + u16::from(bytes[at + 1])
 }
 
-// So many bytes from a place on.
+/// So many bytes from a place on.
 pub fn part_in(bytes: &[u8], at: usize, n: usize) -> &[u8]
     requires { at + n ≤ length bytes.now }
     ensures { result.now ≡ part bytes.now at n }

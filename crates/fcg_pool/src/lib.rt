@@ -17,4 +17,4 @@ pub use check::is_one_of;
 pub use fcg_views::{CodeRule, PoolFault, PoolRule};
 pub use groups::find_bad_group;
 pub use instruction::{Instruction, next_instruction, plain_len};
-pub use pool::{Pool, RefSpan, RefTexts};
+pub use pool::{Pool, RefSpan, RefTexts, Text};

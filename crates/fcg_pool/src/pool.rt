@@ -24,16 +24,24 @@ pub struct RefSpan<'a> {
     pub desc: &'a [u8],
 }
 
-/// What a reference names, with the indexes of its Utf8s (JVMS 4.4.7).
+/// The text of a Utf8 (JVMS 4.4.7): the index of the constant, the bytes, which are a slice of the file, and a place of
+/// the file where they stand.
+#[derive(Clone, Copy)]
+pub struct Text<'a> {
+    pub index: u16,
+    /// In bytes from the file's start.
+    pub at: usize,
+    pub bytes: &'a [u8],
+}
+
+/// What a Fieldref, Methodref or InterfaceMethodref names, as `RefSpan`, with the indexes and the places of its texts.
 #[derive(Clone, Copy)]
 pub struct RefTexts<'a> {
-    pub span: RefSpan<'a>,
-    /// The index of the Utf8 that is the owner's name.
-    pub owner: u16,
-    /// The index of the Utf8 that is the name.
-    pub name: u16,
-    /// The index of the Utf8 that is the descriptor.
-    pub desc: u16,
+    /// The tag of the reference: 9, 10 or 11.
+    pub tag: u8,
+    pub owner: Text<'a>,
+    pub name: Text<'a>,
+    pub desc: Text<'a>,
 }
 
 /// The two indexes of a constant, and its tag.
@@ -70,7 +78,7 @@ impl<'a> Pool<'a> {
     ghost use Rattle.fcg_views.specs.ClassFile.{tag_of};
     ghost use Rattle.fcg_pool.specs.Entry.{constant_seen};
     ghost use Rattle.fcg_pool.specs.Standing.{constant_in, Lies};
-    ghost use Rattle.fcg_pool.specs.Seen.{indexes_of, span_of, AreRefTexts, class_name_of, handle_pair_of, handle_indexes_of};
+    ghost use Rattle.fcg_pool.specs.Seen.{indexes_of, span_of, texts_seen, IsTextOf, AreRefTexts, class_name_of, handle_pair_of, handle_indexes_of};
 
     /// The bytes of the file.
     pub fn bytes(&self) -> &'a [u8]
@@ -119,22 +127,28 @@ impl<'a> Pool<'a> {
         Ok(find_tag(self.bytes(), at))
     }
 
-    /// The place in the file of the first byte of the Utf8 at an index (JVMS 4.4.7), and how many bytes it has.
+    /// The text of the Utf8 at an index (JVMS 4.4.7).
     #[tactic(auto, unfolding(fcg_views::specs::Breaks::Pool::text_of))]
-    pub fn utf8_place(&self, index: u16) -> Result<(usize, usize), PoolRule>
-        ensures value { seen (λ x. part self.now.bytes x.0 x.1) result ≡ text_of self.now index }
-        ensures inside { IfOk result (λ x. x.0 + x.1 ≤ length self.now.bytes) }
+    pub fn text(&self, index: u16) -> Result<Text<'a>, PoolRule>
+        ensures value { seen (λ text. text.bytes.now) result ≡ text_of self.now index }
+        ensures named { IfOk result (IsTextOf self.now) }
     {
         let at = self.place(index)?;
-        find_text(self.bytes(), at)
+        let (begin, len) = find_text(self.bytes(), at)?;
+        let bytes = part_in(self.bytes(), begin, len);
+        Ok(Text {
+            index,
+            at: begin,
+            bytes,
+        })
     }
 
     /// The bytes of the Utf8 at an index (JVMS 4.4.7), which are a slice of the file.
     pub fn utf8(&self, index: u16) -> Result<&'a [u8], PoolRule>
         ensures { seen (λ text. text.now) result ≡ text_of self.now index }
     {
-        let (begin, len) = self.utf8_place(index)?;
-        Ok(part_in(self.bytes(), begin, len))
+        let text = self.text(index)?;
+        Ok(text.bytes)
     }
 
     /// The index of the name of the Class at an index (JVMS 4.4.1).
@@ -163,30 +177,24 @@ impl<'a> Pool<'a> {
         pair_at(self.bytes(), at, tags)
     }
 
-    /// What the Fieldref, Methodref or InterfaceMethodref at an index names (JVMS 4.4.2), with the indexes of its Utf8s.
-    /// The error is the rule that the first of its indexes breaks: those of the owner come before those of the name
-    /// and the descriptor.
+    /// What the Fieldref, Methodref or InterfaceMethodref at an index names (JVMS 4.4.2), as texts. The error is the
+    /// rule that the first of its indexes breaks: those of the owner come before those of the name and the descriptor.
     #[tactic(auto, unfolding(fcg_views::specs::Breaks::Pool::reference_of))]
     pub fn reference_texts(&self, index: u16) -> Result<RefTexts<'a>, PoolRule>
-        ensures value { seen (λ x. span_of x.span) result ≡ reference_of self.now index }
+        ensures value { seen texts_seen result ≡ reference_of self.now index }
         ensures named { IfOk result (AreRefTexts self.now) }
     {
         let pair = self.pair(&[9, 10, 11], index)?;
         let class = self.class_index(pair.first)?;
-        let owner = self.utf8(class)?;
+        let owner = self.text(class)?;
         let member = self.pair(&[12], pair.second)?;
-        let name = self.utf8(member.first)?;
-        let desc = self.utf8(member.second)?;
+        let name = self.text(member.first)?;
+        let desc = self.text(member.second)?;
         Ok(RefTexts {
-            span: RefSpan {
-                tag: pair.tag,
-                owner,
-                name,
-                desc,
-            },
-            owner: class,
-            name: member.first,
-            desc: member.second,
+            tag: pair.tag,
+            owner,
+            name,
+            desc,
         })
     }
 
@@ -195,7 +203,12 @@ impl<'a> Pool<'a> {
         ensures { seen span_of result ≡ reference_of self.now index }
     {
         let texts = self.reference_texts(index)?;
-        Ok(texts.span)
+        Ok(RefSpan {
+            tag: texts.tag,
+            owner: texts.owner.bytes,
+            name: texts.name.bytes,
+            desc: texts.desc.bytes,
+        })
     }
 
     /// The kind of the MethodHandle at an index (JVMS 4.4.8), and the index of what it names.

@@ -2,7 +2,7 @@
 use Rattle.std.proofs.Common.{◌≡◌, ℕ, suc, ◌+◌, ◌-◌, ◌<◌, ◌≤◌, List, [], ◌∷◌, ◌++◌, length, eqb, get_or, refl, sym, ap, subst, ◌∙◌, append_assoc, arith}
 use Rattle.std.specs.Prelude.{true, false, Option, Some, None, Result, Ok, Err, nat_lt}
 use Rattle.std.proofs.lemmas.List.{append-nil, length-append}
-use Rattle.std.proofs.lemmas.Bool.Decides.{nat_tests}
+use Rattle.std.proofs.lemmas.Bool.Decides.{nat_tests, Decides-eqb}
 use Rattle.fcg_grammar.specs.declared.error.ReadError.{ReadError}
 use Rattle.fcg_grammar.specs.declared.error.ReadError.TheVariants as errors
 use Rattle.fcg_grammar.specs.Reading.{◌>>=◌, unless_broken, Fails}
@@ -12,8 +12,8 @@ use Rattle.fcg_views.specs.declared.view.Site.{Site}
 use Rattle.fcg_views.specs.declared.fault.ClassFault.{ClassFault}
 use Rattle.fcg_views.specs.declared.fault.ClassRule.TheVariants.{ManySites}
 use Rattle.fcg_views.specs.Sites.{SiteForm, site_form, is_dynamic, Found, nothing, both}
-use Rattle.fcg_views.specs.Breaks.Fault.{fault, at_opcode}
-use Rattle.fcg_views.specs.Breaks.Pool.{Entries}
+use Rattle.fcg_views.specs.Breaks.Fault.{fault, at_place, at_opcode}
+use Rattle.fcg_views.specs.Breaks.Pool.{Entries, dynamic_of}
 use Rattle.fcg_views.specs.Breaks.Instructions.{next_at, operand_at}
 use Rattle.fcg_views.specs.Breaks.Code.{target_of, site_of, sites_by, calls_by, found_at, found_from}
 
@@ -108,9 +108,21 @@ module _ (pool : Entries) (begin : ℕ) (code : List ℕ) where
         so_far = subst (λ (k : ℕ). after_front (both front here) (found_from pool begin code m.0 next k) ≡ total) n (sym one ∙ m.2);
       }
 
-  found_nothing : (pc count : ℕ) → site_form (get_or code pc 0) ≡ None → is_dynamic (get_or code pc 0) ≡ false → found_at pool begin code pc count ≡ Ok nothing
+  pub found_nothing : (pc count : ℕ) → site_form (get_or code pc 0) ≡ None → is_dynamic (get_or code pc 0) ≡ false → found_at pool begin code pc count ≡ Ok nothing
   unfolding found_at
   found_nothing pc count no_site no_call = rw (no_site, no_call) refl
+
+  pub found_site : (form : SiteForm) (pc count : ℕ) (s : Site) → site_form (get_or code pc 0) ≡ Some form → is_dynamic (get_or code pc 0) ≡ false
+      → site_of pool form (begin + pc) pc (operand_at code pc) count ≡ Ok s → found_at pool begin code pc count ≡ Ok (record { sites = s ∷ []; calls = [] })
+  unfolding found_at
+  found_site form pc count s is no_call read = rw (is, no_call, read) refl
+
+  pub found_call : (pc count n : ℕ) → is_dynamic (get_or code pc 0) ≡ true → at_place (begin + pc) (operand_at code pc) (dynamic_of pool (operand_at code pc)) ≡ Ok n
+      → found_at pool begin code pc count ≡ Ok (record { sites = []; calls = record { pc = pc; bootstrap = n } ∷ [] })
+  unfolding found_at
+  found_call pc count n is read =
+      let no_site : site_form (get_or code pc 0) ≡ None = rw ((Decides-eqb (get_or code pc 0) 186).0 is) refl in
+      rw (no_site, is, read) refl
 
   -- an instruction that has nothing is passed over
   pub found_pass : (count pc next : ℕ) (front : Found) (total : Result Found ClassFault) → pc < length code → pc < next → next_at code pc ≡ Ok next

@@ -1,19 +1,22 @@
 -- What the reader of sites answers.
-use Rattle.std.specs.Prelude.{[], ◌∷◌, ◌==◌, Option, Some, None}
+use Rattle.std.specs.Prelude.{◌≡◌, List, ◌++◌, ◌==◌, Option, Some, None, Result, Ok, Err}
+use Rattle.fcg_grammar.specs.declared.error.ReadError.{ReadError}
+use Rattle.fcg_grammar.specs.Reading.{Fails}
+use Rattle.fcg_views.specs.declared.code.DynamicCall.{DynamicCall}
+use Rattle.fcg_views.specs.declared.fault.ClassFault.{ClassFault}
+use Rattle.fcg_views.specs.declared.view.Site.{Site}
 use Rattle.fcg_views.specs.declared.view.Ref.{Ref}
 use Rattle.fcg_views.specs.Sites as sites
 use Rattle.fcg_pool.specs.declared.pool.RefTexts.{RefTexts}
 use Rattle.fcg_class.specs.declared.site.Target.{Target}
 use Rattle.fcg_class.specs.declared.site.Target.TheVariants.{Method, Field, «Type»}
 use Rattle.fcg_class.specs.declared.site.SiteForm.{SiteForm}
-use Rattle.fcg_class.specs.declared.site.SiteOrCall.{SiteOrCall}
-use Rattle.fcg_class.specs.declared.site.SiteOrCall.TheVariants.{Nothing, Site as OneSite, Call as OneCall}
 
--- what an instruction has
-abbrev pub found_in : SiteOrCall → sites.Found
-found_in Nothing = sites.nothing
-found_in (OneSite s) = record { sites = s ∷ []; calls = [] }
-found_in (OneCall c) = record { sites = []; calls = c ∷ [] }
+-- what an instruction has is added to the sites and the calls before; or the fault
+abbrev pub GivesFound : Result (Unit {0}) (ReadError ClassFault) → List Site → List Site → List DynamicCall → List DynamicCall → Result sites.Found ClassFault → Type 0
+GivesFound (Ok done) old_sites new_sites old_calls new_calls read =
+    (here : sites.Found) × (read ≡ Ok here) × (new_sites ≡ old_sites ++ here.sites) × (new_calls ≡ old_calls ++ here.calls)
+GivesFound (Err e) old_sites new_sites old_calls new_calls read = Fails e read
 
 -- what a site names, as that of the definition
 abbrev pub target_in : Target → sites.Target

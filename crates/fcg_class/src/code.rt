@@ -7,17 +7,16 @@ ghost use Rattle.fcg_views.specs.Breaks.Instructions.{next_at, operand_at};
 ghost use Rattle.fcg_views.specs.Breaks.Attributes.{over};
 ghost use Rattle.fcg_views.specs.Breaks.Code.{found_of, handler_at, handlers_at, code_at};
 ghost use Rattle.fcg_class.specs.Calls.{ArePlaced};
-ghost use Rattle.fcg_class.specs.Sites.{found_in};
 
 use crate::attributes::pass_attributes;
 use crate::calls::CodeCalls;
 use crate::names::ClassNames;
 use crate::number::{read_part, read_u2, read_u4};
-use crate::site::{CodeSpan, SiteOrCall, read_site_or_call};
+use crate::site::{CodeSpan, push_site_or_call};
 use fcg_grammar::ReadError;
 use fcg_pool::{Instruction, next_instruction, plain_len};
 use fcg_views::{ClassFault, ClassRule, DynamicCall, Site, Sites, at_opcode, fault_at};
-use std::alloc::{AllocError, Global};
+use std::alloc::Global;
 use std::marker::Model;
 
 /// What a method's attribute Code says: the sites of its instructions, and its calls of bootstrap methods.
@@ -100,23 +99,6 @@ fn read_instruction(code: CodeSpan<'_>, pc: u16) -> Result<Instruction, ClassFau
     )
 }
 
-// Adds what an instruction has.
-fn push_found(
-    sites: &mut Vec<Site>,
-    calls: &mut Vec<DynamicCall>,
-    found: SiteOrCall,
-) -> Result<(), AllocError>
-    ensures sites { OnOk result (sites.new.items ≡ sites.old.items ++ (found_in found).sites) }
-    ensures calls { OnOk result (calls.new.items ≡ calls.old.items ++ (found_in found).calls) }
-{
-    match found {
-        SiteOrCall::Nothing => {}
-        SiteOrCall::Site(site) => sites.push(site)?,
-        SiteOrCall::Call(call) => calls.push(call)?,
-    }
-    Ok(())
-}
-
 // What the instructions of a code have, where so many sites of the class are before. Most have nothing, and are passed
 // over.
 fn read_found(
@@ -144,8 +126,15 @@ fn read_found(
         } else {
             let instruction = read_instruction(code, pc as u16)?;
             let before = count + sites.len();
-            let found = read_site_or_call(names, code, pc as u16, instruction, before)?;
-            push_found(&mut sites, &mut calls, found)?;
+            push_site_or_call(
+                names,
+                code,
+                pc as u16,
+                instruction,
+                before,
+                &mut sites,
+                &mut calls,
+            )?;
             pc = instruction.next as usize;
         }
     }

@@ -1,6 +1,6 @@
 //! The sites of a method's code, and its calls of bootstrap methods: the instructions that name a method, a field, a
 //! type or a bootstrap method (JVMS 6.5).
-ghost use Rattle.std.specs.Prelude.{◌≡◌, ◌+◌, ◌<◌, ◌^◌, false, None, IfOk, IsTrue, slice_index};
+ghost use Rattle.std.specs.Prelude.{◌≡◌, ◌+◌, ◌<◌, ◌^◌, false, None, OnOk, IfOk, slice_index};
 ghost use Rattle.fcg_grammar.specs.Reading.{seen, Gives};
 ghost use Rattle.fcg_views.specs.Sites.{ToType, site_form, is_dynamic};
 ghost use Rattle.fcg_views.specs.Breaks.Instructions.{operand_at};
@@ -8,7 +8,7 @@ ghost use Rattle.fcg_views.specs.Breaks.Code.{member_of, target_of, site_of, fou
 ghost use Rattle.fcg_pool.specs.Seen.{AreRefTexts};
 ghost use Rattle.fcg_class.specs.Names.{is_of_kind};
 ghost use Rattle.fcg_class.specs.Calls.{ArePlaced};
-ghost use Rattle.fcg_class.specs.Sites.{found_in, form_in, form_seen, target_in, ref_of};
+ghost use Rattle.fcg_class.specs.Sites.{GivesFound, form_in, form_seen, target_in, ref_of};
 
 use crate::names::{ClassNames, DescKind};
 use crate::text::find_type_of;
@@ -44,14 +44,6 @@ pub enum Target {
 pub struct SiteForm {
     pub kind: SiteKind,
     pub target: Target,
-}
-
-/// What an instruction has: a site, a call of a bootstrap method, or neither.
-#[derive(Drop)]
-pub enum SiteOrCall {
-    Nothing,
-    Site(Site),
-    Call(DynamicCall),
 }
 
 // What the sites of an opcode have, or `None` where it has none.
@@ -199,35 +191,38 @@ pub fn read_site_of(
     })
 }
 
-/// The site or the call of a bootstrap method that the instruction whose opcode stands at a place of the code has.
+/// Adds the site or the call of a bootstrap method that the instruction whose opcode stands at a place of the code has.
 /// `count` is the number of sites of the class before it.
 ///
 /// A fault is at the place of the opcode in the file: that of the site, or of the operand of `invokedynamic`, which
 /// names no InvokeDynamic.
 #[tactic(auto, unfolding(fcg_views::specs::Breaks::Code::found_at))]
-pub fn read_site_or_call(
+pub fn push_site_or_call(
     names: &mut ClassNames<'_>,
     code: CodeSpan<'_>,
     pc: u16,
     instruction: Instruction,
     count: usize,
-) -> Result<SiteOrCall, ReadError<ClassFault>>
+    sites: &mut Vec<Site>,
+    calls: &mut Vec<DynamicCall>,
+) -> Result<(), ReadError<ClassFault>>
     requires place { code.begin + pc < 2 ^ 64 }
     requires opcode { instruction.opcode ≡ slice_index code.bytes.now pc }
     requires operand { instruction.operand ≡ operand_at code.bytes.now pc }
-    ensures value { Gives found_in result (found_at names.old code.entry.begin code.entry.bytes.now pc count) }
-    ensures placed { IfOk result (λ x. ArePlaced code.entry.begin (found_in x).calls) }
+    ensures value { GivesFound result sites.old.items sites.new.items calls.old.items calls.new.items (found_at names.old code.entry.begin code.entry.bytes.now pc count) }
+    ensures placed { ArePlaced code.entry.begin calls.old.items → OnOk result (ArePlaced code.entry.begin calls.new.items) }
     ensures same { names.new ≡ names.old }
 {
     let at = code.begin + usize::from(pc);
     let operand = instruction.operand;
     if is_dynamic(instruction.opcode) {
         let bootstrap = at_index(at, operand, names.pool().dynamic(operand))?;
-        return Ok(SiteOrCall::Call(DynamicCall { pc, bootstrap }));
+        calls.push(DynamicCall { pc, bootstrap })?;
+        return Ok(());
     }
-    let Some(form) = form_of(instruction.opcode) else {
-        return Ok(SiteOrCall::Nothing);
-    };
-    let site = read_site_of(names, form, at, pc, operand, count)?;
-    Ok(SiteOrCall::Site(site))
+    if let Some(form) = form_of(instruction.opcode) {
+        let site = read_site_of(names, form, at, pc, operand, count)?;
+        sites.push(site)?;
+    }
+    Ok(())
 }

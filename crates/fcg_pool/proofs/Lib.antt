@@ -3,3 +3,4 @@ pub mod TagLemmas
 pub mod PlaceLemmas
 pub mod GroupLemmas
 pub mod Layouts
+pub mod StandingLemmas

@@ -1,9 +1,9 @@
 //! Constants (JVMS 4.4.1 to 4.4.12). Nothing of them is copied.
-ghost use Rattle.std.specs.Prelude.{◌≡◌, ◌≤◌, ◌<◌, ◌+◌, length, slice_index, Some, IfOk};
+ghost use Rattle.std.specs.Prelude.{◌≡◌, ◌≤◌, ◌<◌, ◌+◌, ℕ, List, length, slice_index, true, Some, IfOk};
 ghost use Rattle.fcg_grammar.specs.Reading.{seen};
 ghost use Rattle.fcg_grammar.specs.Number.{u2, part};
 ghost use Rattle.fcg_views.specs.ClassFile as file;
-ghost use Rattle.fcg_views.specs.ClassFile.{tag_of, is_wide};
+ghost use Rattle.fcg_views.specs.ClassFile.{is_one_of, tag_of, is_wide};
 ghost use Rattle.fcg_views.specs.Breaks.Pool.{shaped_at, constant_read, text_in, name_in, pair_in};
 ghost use Rattle.fcg_pool.specs.Entry.{shape_seen, constant_seen};
 ghost use Rattle.fcg_pool.specs.Seen.{indexes_of};
@@ -184,109 +184,61 @@ pub fn part_in(bytes: &[u8], at: usize, n: usize) -> &[u8]
     part
 }
 
-// Where the text of a constant of a shape begins, which is a Utf8, and how many bytes it has.
-#[tactic(auto, unfolding(crate::specs::Standing::shaped_in, crate::specs::Standing::ShapeLies))]
-fn shaped_text(
-    bytes: &[u8],
-    at: usize,
-    tag: u8,
-    shape: Option<Shape>,
-) -> Result<(usize, usize), PoolRule>
-    requires { ShapeLies bytes.now at (shape_seen shape) }
-    ensures value { seen (λ x. part bytes.now x.0 x.1) result ≡ text_in (shaped_in bytes.now at tag (shape_seen shape)) }
-    ensures inside { IfOk result (λ x. x.0 + x.1 ≤ length bytes.now) }
-{
-    match shape {
-        None => unreachable!(),
-        Some(Shape::Text) => Ok((at + 3, usize::from(u2_in(bytes, at + 1)))),
-        Some(Shape::Bytes(_)) => Err(PoolRule::WrongKind),
-        Some(Shape::One) => Err(PoolRule::WrongKind),
-        Some(Shape::Two) => Err(PoolRule::WrongKind),
-        Some(Shape::Kinded) => Err(PoolRule::WrongKind),
-    }
-}
-
 /// Where the text of the constant begins that stands at a place, which is a Utf8, and how many bytes it has.
-#[tactic(auto, unfolding(crate::specs::Standing::constant_in))]
+#[tactic(auto, using(crate::proofs::StandingLemmas::text_room, crate::proofs::StandingLemmas::text_inside, crate::proofs::StandingLemmas::text_stands, crate::proofs::StandingLemmas::no_text))]
 pub fn find_text(bytes: &[u8], at: usize) -> Result<(usize, usize), PoolRule>
     requires { Lies bytes.now at }
     ensures value { seen (λ x. part bytes.now x.0 x.1) result ≡ text_in (constant_in bytes.now at) }
     ensures inside { IfOk result (λ x. x.0 + x.1 ≤ length bytes.now) }
 {
-    let tag = bytes[at];
-    shaped_text(bytes, at, tag, shape_of(tag))
-}
-
-// The index of the name of a constant of a shape, which is a Class.
-#[tactic(auto, unfolding(crate::specs::Standing::shaped_in, crate::specs::Standing::ShapeLies))]
-fn shaped_name(bytes: &[u8], at: usize, tag: u8, shape: Option<Shape>) -> Result<u16, PoolRule>
-    requires { ShapeLies bytes.now at (shape_seen shape) }
-    ensures { result ≡ name_in (shaped_in bytes.now at tag (shape_seen shape)) }
-{
-    match shape {
-        None => unreachable!(),
-        Some(Shape::Text) => Err(PoolRule::WrongKind),
-        Some(Shape::Bytes(_)) => Err(PoolRule::WrongKind),
-        Some(Shape::One) => {
-            if tag == 7 {
-                Ok(u2_in(bytes, at + 1))
-            } else {
-                Err(PoolRule::WrongKind)
-            }
-        }
-        Some(Shape::Two) => Err(PoolRule::WrongKind),
-        Some(Shape::Kinded) => Err(PoolRule::WrongKind),
+    if bytes[at] == 1 {
+        Ok((at + 3, usize::from(u2_in(bytes, at + 1))))
+    } else {
+        Err(PoolRule::WrongKind)
     }
 }
 
 /// The index of the name of the constant that stands at a place, which is a Class.
-#[tactic(auto, unfolding(crate::specs::Standing::constant_in))]
+#[tactic(auto, using(crate::proofs::StandingLemmas::name_room, crate::proofs::StandingLemmas::name_stands, crate::proofs::StandingLemmas::no_name))]
 pub fn name_at(bytes: &[u8], at: usize) -> Result<u16, PoolRule>
     requires { Lies bytes.now at }
     ensures { result ≡ name_in (constant_in bytes.now at) }
 {
-    let tag = bytes[at];
-    shaped_name(bytes, at, tag, shape_of(tag))
+    if bytes[at] == 7 {
+        Ok(u2_in(bytes, at + 1))
+    } else {
+        Err(PoolRule::WrongKind)
+    }
 }
 
-// The two indexes of a constant of a shape, which is of one of these tags.
+// The two indexes of a constant of a shape and of a tag.
 #[tactic(auto, unfolding(crate::specs::Standing::shaped_in, crate::specs::Standing::ShapeLies))]
-fn shaped_pair(
-    bytes: &[u8],
-    at: usize,
-    tags: &[u8],
-    tag: u8,
-    shape: Option<Shape>,
-) -> Result<Indexes, PoolRule>
+fn shaped_pair(bytes: &[u8], at: usize, tag: u8, shape: Option<Shape>) -> Result<Indexes, PoolRule>
     requires { ShapeLies bytes.now at (shape_seen shape) }
-    ensures { seen indexes_of result ≡ pair_in tags.now (shaped_in bytes.now at tag (shape_seen shape)) }
+    ensures { (tags : List ℕ) → is_one_of tags tag ≡ true → seen indexes_of result ≡ pair_in tags (shaped_in bytes.now at tag (shape_seen shape)) }
 {
     match shape {
         None => unreachable!(),
-        Some(Shape::Text) => Err(PoolRule::WrongKind),
-        Some(Shape::Bytes(_)) => Err(PoolRule::WrongKind),
-        Some(Shape::One) => Err(PoolRule::WrongKind),
         Some(Shape::Two) => {
-            if is_one_of(tags, tag) {
-                let first = u2_in(bytes, at + 1);
-                let second = u2_in(bytes, at + 3);
-                Ok(Indexes { tag, first, second })
-            } else {
-                Err(PoolRule::WrongKind)
-            }
+            let first = u2_in(bytes, at + 1);
+            let second = u2_in(bytes, at + 3);
+            Ok(Indexes { tag, first, second })
         }
-        Some(Shape::Kinded) => Err(PoolRule::WrongKind),
+        Some(_) => Err(PoolRule::WrongKind),
     }
 }
 
 /// The two indexes of the constant that stands at a place, which is of one of these tags.
-#[tactic(auto, unfolding(crate::specs::Standing::constant_in))]
+#[tactic(auto, unfolding(crate::specs::Standing::constant_in), using(crate::proofs::StandingLemmas::no_pair))]
 pub fn pair_at(bytes: &[u8], at: usize, tags: &[u8]) -> Result<Indexes, PoolRule>
     requires { Lies bytes.now at }
     ensures { seen indexes_of result ≡ pair_in tags.now (constant_in bytes.now at) }
 {
     let tag = bytes[at];
-    shaped_pair(bytes, at, tags, tag, shape_of(tag))
+    if !is_one_of(tags, tag) {
+        return Err(PoolRule::WrongKind);
+    }
+    shaped_pair(bytes, at, tag, shape_of(tag))
 }
 
 #[tactic(auto, unfolding(crate::specs::Standing::shaped_in, crate::specs::Standing::ShapeLies))]
@@ -307,30 +259,13 @@ fn find_shaped(bytes: &[u8], at: usize, tag: u8, shape: Option<Shape>) -> Entry<
     }
 }
 
-// The tag of a constant of a shape.
-#[tactic(auto, unfolding(crate::specs::Standing::shaped_in, crate::specs::Standing::ShapeLies))]
-fn shaped_tag(bytes: &[u8], at: usize, tag: u8, shape: Option<Shape>) -> u8
-    requires { ShapeLies bytes.now at (shape_seen shape) }
-    ensures { result ≡ tag_of (shaped_in bytes.now at tag (shape_seen shape)) }
-{
-    match shape {
-        None => unreachable!(),
-        Some(Shape::Text) => 1,
-        Some(Shape::Bytes(_)) => tag,
-        Some(Shape::One) => tag,
-        Some(Shape::Two) => tag,
-        Some(Shape::Kinded) => 15,
-    }
-}
-
-/// The tag of the constant that stands at a place, without what follows it.
-#[tactic(auto, unfolding(crate::specs::Standing::constant_in))]
+/// The tag of the constant that stands at a place.
+#[tactic(auto, using(crate::proofs::StandingLemmas::tag_stands))]
 pub fn find_tag(bytes: &[u8], at: usize) -> u8
     requires { Lies bytes.now at }
     ensures { result ≡ tag_of (constant_in bytes.now at) }
 {
-    let tag = bytes[at];
-    shaped_tag(bytes, at, tag, shape_of(tag))
+    bytes[at]
 }
 
 /// The constant that stands at a place.

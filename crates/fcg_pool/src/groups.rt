@@ -15,8 +15,8 @@ fn front_group(text: &[u8]) -> usize
     }
 }
 
-// Whether each byte is a group of its own.
-fn are_single(text: &[u8]) -> bool
+/// Whether each byte is a group of its own.
+pub fn are_single(text: &[u8]) -> bool
     ensures { result ≡ list_all is_single text.now }
 {
     // without an end before the last byte, so that many are looked at in one instruction

@@ -28,8 +28,8 @@ fn are_few_single(bytes: &[u8]) -> bool
     single
 }
 
-// Whether each byte is a group of its own, N bytes at a time. The last N are looked at together too, though some of them
-// may have been before. It is None for a text of fewer.
+// Whether each byte is a group of its own, N bytes at a time; the last N are looked at together too, though some of them
+// were before. It is None for a text of fewer. It takes a step for each N bytes.
 #[inline(always)]
 fn are_single_by<const N: usize>(text: &[u8]) -> Option<bool>
     requires { (0 < N) × (N ≤ 16) }
@@ -46,11 +46,15 @@ fn are_single_by<const N: usize>(text: &[u8]) -> Option<bool>
     Some(are_few_single(last))
 }
 
-/// Whether each byte is a group of its own. It takes a step for 16 bytes, and a few steps for a text of fewer.
+/// Whether each byte is a group of its own. It takes no memory, a step for each 16 bytes, and a few steps for a text of
+/// fewer.
 pub fn are_single(text: &[u8]) -> bool
     ensures { result ≡ list_all is_single text.now }
 {
     if let Some(single) = are_single_by::<16>(text) {
+        return single;
+    }
+    if let Some(single) = are_single_by::<8>(text) {
         return single;
     }
     if let Some(single) = are_single_by::<4>(text) {

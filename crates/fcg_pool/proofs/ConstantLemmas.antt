@@ -1,16 +1,19 @@
 -- A constant that was read stands in the file.
-use Rattle.std.proofs.Common.{◌≡◌, ℕ, ◌+◌, ◌≤◌, ◌<◌, List, length, get_or, Option, Some, None, false, refl, sym, ap, subst, ◌∙◌, ltb, arith}
+use Rattle.std.proofs.Common.{◌≡◌, ℕ, ◌+◌, ◌≤◌, ◌<◌, List, length, get_or, Option, Some, None, true, false, refl, sym, ap, subst, ◌∙◌, ltb, arith}
 use Rattle.std.specs.Prelude.{Ok}
-use Rattle.std.proofs.lemmas.Bool.{ltb-false}
+use Rattle.std.specs.List.{list_all}
+use Rattle.std.proofs.lemmas.Bool.{ltb-false, le-ltb}
 use Rattle.fcg_grammar.specs.Number as number
 use Rattle.fcg_grammar.specs.Number.{u1_at, u2_at, part_at}
 use Rattle.fcg_grammar.proofs.LawLemmas.{bind_ok}
 use Rattle.fcg_grammar.proofs.Standing.{guard_ok, ok_is}
 use Rattle.fcg_views.specs.ClassFile.{Shape, Text, Bytes, One, Two, Kinded, shape_of, Constant, is_wide, Utf8, Plain, Named, Pair, Handle}
-use Rattle.fcg_views.specs.Breaks.Groups.{bad_group}
+use Rattle.fcg_views.specs.Breaks.Groups.{is_single, bad_group}
 use Rattle.fcg_views.specs.Breaks.Pool as pool
 use Rattle.fcg_views.specs.Breaks.Pool.{grouped, shaped_at, constant_read, slot_at}
-use Rattle.fcg_pool.specs.Standing.{shaped_in, constant_in, ShapeLies, Lies}
+use Rattle.fcg_pool.specs.Standing.{shaped_in, constant_in, slot_in, ShapeLies, Lies}
+use Rattle.fcg_pool.specs.Seen.{start}
+use Rattle.fcg_pool.proofs.GroupLemmas.{single_none}
 
 u1_is : {E : Type 0} (cut : E) (bytes : List ℕ) (at n : ℕ) → u1_at cut bytes at ≡ Ok n → (at + 1 ≤ length bytes) × (get_or bytes at 0 ≡ n)
 unfolding u1_at
@@ -112,3 +115,26 @@ pub slot_is : (bytes : List ℕ) (index : ℕ) (next : pool.Next) (x : Constant 
     → slot_at bytes index next ≡ Ok (Some (record { tag = next.at; constant = x.0 }), record { at = x.1; second = is_wide x.0 })
 unfolding slot_at
 slot_is bytes index next x first read = rw (first, read) refl
+
+-- ---- a Utf8 of single bytes
+
+single_read : (bytes : List ℕ) (index at : ℕ) → at + 3 + number.u2 bytes (at + 1) ≤ length bytes → get_or bytes at 0 ≡ 1 → list_all is_single (number.part bytes (at + 3) (number.u2 bytes (at + 1))) ≡ true
+    → constant_read bytes index at ≡ Ok (Utf8 (number.part bytes (at + 3) (number.u2 bytes (at + 1))), at + 3 + number.u2 bytes (at + 1))
+unfolding constant_read shaped_at u1_at u2_at part_at
+single_read bytes index at le tag single =
+    let one : ltb (length bytes) (at + 1) ≡ false = le-ltb _ _ (omega arith) in
+    let two : ltb (length bytes) (at + 1 + 2) ≡ false = le-ltb _ _ (omega arith) in
+    let all : ltb (length bytes) (at + 3 + number.u2 bytes (at + 1)) ≡ false = le-ltb _ _ le in
+    rw (one, tag, two, all, single_none (at + 3) _ single) refl
+
+single_in : (bytes : List ℕ) (at : ℕ) → get_or bytes at 0 ≡ 1 → constant_in bytes at ≡ Utf8 (number.part bytes (at + 3) (number.u2 bytes (at + 1)))
+unfolding constant_in shaped_in
+single_in bytes at tag = rw tag refl
+
+pub single_slot : (bytes : List ℕ) (index at : ℕ) → at + 3 + number.u2 bytes (at + 1) ≤ length bytes → get_or bytes at 0 ≡ 1 → list_all is_single (number.part bytes (at + 3) (number.u2 bytes (at + 1))) ≡ true
+    → slot_at bytes index (start at) ≡ Ok (slot_in bytes (Some at), start (at + 3 + number.u2 bytes (at + 1)))
+unfolding slot_at
+single_slot bytes index at le tag single = rw (single_in bytes at tag, single_read bytes index at le tag single) refl
+
+pub single_lies : (bytes : List ℕ) (at : ℕ) → at + 3 + number.u2 bytes (at + 1) ≤ length bytes → get_or bytes at 0 ≡ 1 → list_all is_single (number.part bytes (at + 3) (number.u2 bytes (at + 1))) ≡ true → Lies bytes at
+single_lies bytes at le tag single = (constant_found bytes 0 at _ (single_read bytes 0 at le tag single)).lies

@@ -1,5 +1,5 @@
 -- The table of what follows opcodes, opcode by opcode.
-use Rattle.std.proofs.Common.{◌≡◌, ℕ, suc, ◌+◌, ◌-◌, ◌<◌, ◌≤◌, ◌∙◌, List, length, map, get_or, Bool, true, false, ltb, ◌||◌, refl, sym, ap, arith}
+use Rattle.std.proofs.Common.{◌≡◌, ℕ, ◌+◌, ◌-◌, ◌<◌, ◌≤◌, ◌∙◌, List, length, map, get_or, Bool, true, false, ltb, ◌||◌, refl, sym, ap, arith}
 use Rattle.std.specs.Prelude.{Option, Some, None, Ok, is_some, nat_le, nat_lt}
 use Rattle.std.specs.List.{range_with_len}
 use Rattle.fcg_grammar.specs.Number.{part_at}
@@ -7,7 +7,6 @@ use Rattle.std.proofs.lemmas.List.{get_or-map}
 use Rattle.std.proofs.lemmas.List.FromFn.{get_or-map-range_with_len}
 use Rattle.std.proofs.lemmas.Bool.{le-ltb}
 use Rattle.std.proofs.lemmas.Bool.Decides.{nat_tests}
-use Rattle.fcg_views.specs.declared.code.CodeRule.{CodeRule}
 use Rattle.fcg_views.specs.Instructions.{Form, form_of, Fixed}
 use Rattle.fcg_views.specs.Sites.{SiteForm, site_form, is_dynamic}
 use Rattle.fcg_views.specs.Breaks.Instructions.{passed, formed_at, next_at}

@@ -166,8 +166,8 @@ pub fn read_constant(bytes: &[u8], index: u16, at: usize) -> Result<(Entry<'_>, 
     read_shaped(bytes, index, at, tag, shape_of(tag))
 }
 
-// The number of two bytes at a place.
-fn u2_in(bytes: &[u8], at: usize) -> u16
+/// The number of two bytes at a place.
+pub fn u2_in(bytes: &[u8], at: usize) -> u16
     requires { at + 2 ≤ length bytes.now }
     ensures { result ≡ u2 bytes.now at }
 {

@@ -1,12 +1,13 @@
 //! The constants of a pool, each by its index.
-ghost use Rattle.std.specs.Prelude.{◌≡◌, ◌≤◌, ◌-◌, length, false, map, IfOk};
+ghost use Rattle.std.specs.Prelude.{◌≡◌, ℕ, ◌≤◌, ◌-◌, length, false, map, Some, Ok, IfOk, IfSome};
 ghost use Rattle.fcg_grammar.specs.Reading.{seen, Gives};
 ghost use Rattle.fcg_grammar.specs.Rows.{rows};
 ghost use Rattle.fcg_views.specs.Breaks.Pool.{slot_at};
-ghost use Rattle.fcg_pool.specs.Standing.{slot_in, IsInside, IsPool};
+ghost use Rattle.fcg_pool.specs.Standing.{slot_in, Lies, IsInside, IsPool};
 ghost use Rattle.fcg_pool.specs.Seen.{next_of, start};
 
-use crate::constant::read_constant;
+use crate::constant::{part_in, read_constant, u2_in};
+use crate::groups::are_single;
 use fcg_grammar::ReadError;
 use fcg_views::PoolFault;
 use std::alloc::Global;
@@ -16,6 +17,25 @@ use std::alloc::Global;
 pub struct Next {
     pub at: usize,
     pub second: bool,
+}
+
+// The place after the Utf8 that stands at a place, where each of its bytes is a group of its own. It is None for a Utf8
+// with other bytes, for any other constant, and for one that passes the end. Most constants are such texts, and they are
+// read here in a few steps.
+#[tactic(auto, using(crate::proofs::ConstantLemmas::single_slot, crate::proofs::ConstantLemmas::single_lies))]
+fn single_text_end(bytes: &[u8], at: usize) -> Option<usize>
+    requires { at ≤ length bytes.now }
+    ensures value { IfSome result (λ after. (index : ℕ) → slot_at bytes.now index (start at) ≡ Ok (slot_in bytes.now (Some at), start after)) }
+    ensures inside { IfSome result (λ after. (after ≤ length bytes.now) × Lies bytes.now at) }
+{
+    if bytes.len() - at < 3 || bytes[at] != 1 {
+        return None;
+    }
+    let len = usize::from(u2_in(bytes, at + 1));
+    if bytes.len() - at - 3 < len || !are_single(part_in(bytes, at + 3, len)) {
+        return None;
+    }
+    Some(at + 3 + len)
 }
 
 // The place of the constant of an index, and what comes next.
@@ -30,6 +50,15 @@ fn read_slot(bytes: &[u8], index: u16, next: Next) -> Result<(Option<usize>, Nex
             None,
             Next {
                 at: next.at,
+                second: false,
+            },
+        ));
+    }
+    if let Some(after) = single_text_end(bytes, next.at) {
+        return Ok((
+            Some(next.at),
+            Next {
+                at: after,
                 second: false,
             },
         ));

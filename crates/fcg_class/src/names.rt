@@ -79,6 +79,7 @@ impl<'a> ClassNames<'a> {
     }
 
     /// Whether a text is a descriptor of a kind. One that is is read once, however often it is asked for.
+    #[inline(always)]
     pub fn is_descriptor(&mut self, kind: DescKind, text: &Text<'_>) -> bool
         requires { text_of self.old text.now.index ≡ Ok text.now.bytes.now }
         ensures value { result ≡ is_of_kind kind text.now.bytes.now }

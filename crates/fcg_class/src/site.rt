@@ -111,6 +111,7 @@ fn make_ref(names: &mut ClassNames<'_>, member: &RefTexts<'_>) -> Result<Ref, No
 }
 
 // The member of a type that an index names, by a constant of one of these tags and with a descriptor of a kind.
+#[inline(always)]
 fn read_member(
     names: &mut ClassNames<'_>,
     kind: DescKind,
@@ -168,6 +169,7 @@ fn read_target(
 /// the class has as many sites before as it may have.
 ///
 /// Takes constant time, but where a descriptor is needed for the first time: then it is read.
+#[inline(always)]
 #[tactic(auto, unfolding(fcg_views::specs::Breaks::Code::site_of))]
 pub fn read_site_of(
     names: &mut ClassNames<'_>,

@@ -1,7 +1,7 @@
 -- What the tag of a constant tells that stands in the file.
 use Rattle.std.proofs.Common.{◌≡◌, ℕ, ◌+◌, ◌≤◌, List, [], ◌∷◌, length, get_or, Bool, true, false, ◌==◌, refl, sym, arith}
 use Rattle.std.specs.Prelude.{Option, Some, None, Result, Ok, Err, if◌then◌else◌}
-use Rattle.std.proofs.lemmas.Bool.Decides.{Decides-eqb}
+use Rattle.std.proofs.lemmas.Bool.Decides.{Decides-eqb, nat_tests}
 use Rattle.fcg_grammar.specs.Number.{u2, part}
 use Rattle.fcg_views.specs.declared.fault.PoolRule.TheVariants.{WrongKind}
 use Rattle.fcg_views.specs.ClassFile.{Shape, Text, Bytes, One, Two, Kinded, is_one_of, shape_of, tag_of}
@@ -119,9 +119,12 @@ module _ (bytes : List ℕ) (at : ℕ) where
   unfolding ShapeLies
   name_room lies is = (let rest = rw is at lies.rest in omega (arith, rest))
 
-  pub no_name : Lies bytes at → (get_or bytes at 0 == 7) ≡ false → name_in (constant_in bytes at) ≡ Err WrongKind
+  pub no_name : Lies bytes at → (get_or bytes at 0 ≡ 7 → ⊥) → name_in (constant_in bytes at) ≡ Err WrongKind
   unfolding constant_in
-  no_name lies other = no_name_in (get_or bytes at 0) (shape_of (get_or bytes at 0)) lies.rest other
+  no_name lies other = no_name_in (get_or bytes at 0) (shape_of (get_or bytes at 0)) lies.rest (not_seven (get_or bytes at 0) other)
+    where
+      not_seven : (n : ℕ) → (n ≡ 7 → ⊥) → (n == 7) ≡ false
+      not_seven n other = grind (arith, nat_tests)
 
   pub no_pair : (tags : List ℕ) → Lies bytes at → is_one_of tags (get_or bytes at 0) ≡ false → pair_in tags (constant_in bytes at) ≡ Err WrongKind
   unfolding constant_in

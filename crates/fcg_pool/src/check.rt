@@ -10,6 +10,7 @@ use crate::pool::Pool;
 use fcg_views::{PoolFault, PoolRule, pool_fault_at};
 
 /// Whether a tag is one of these.
+#[inline(always)]
 pub fn is_one_of(tags: &[u8], tag: u8) -> bool
     ensures { result ≡ is_one_of tags.now tag }
 {

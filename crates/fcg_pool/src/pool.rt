@@ -128,6 +128,7 @@ impl<'a> Pool<'a> {
     }
 
     /// The text of the Utf8 at an index (JVMS 4.4.7).
+    #[inline(always)]
     #[tactic(auto, unfolding(fcg_views::specs::Breaks::Pool::text_of))]
     pub fn text(&self, index: u16) -> Result<Text<'a>, PoolRule>
         ensures value { seen (λ text. text.bytes.now) result ≡ text_of self.now index }

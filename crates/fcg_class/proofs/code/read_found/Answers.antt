@@ -47,8 +47,7 @@ pub loop-pc-preserved-then-plain-gt0 : goal.loop-pc-preserved-then-plain-gt0
 loop-pc-preserved-then-plain-gt0 c =
     let inv = c.loop-pc.invariant in
     let plain = c.plain_len-plain.ensures in
-    let some = c.if-plain-gt0.true in
-    (
+    let some = c.if-plain-gt0.true in (
       found_pass c.args.names.now c.args.code.begin c.args.code.bytes.now c.args.count c.loop-pc.pc _ _ _ c.loop-pc-test.true (omega (arith, some)) (plain.next some) (plain.site some) (plain.call some) inv.0,
       plain.inside,
       inv.2,

@@ -1,6 +1,8 @@
 -- The first indexes of texts.
 use Rattle.std.proofs.Common.{◌≡◌, ◌⊎◌, inl, inr, ℕ, List, Bool, true, false, cond, get_or, nat_eq, ◌==◌, ◌&&◌, ◌<◌, length, slice_set, refl, sym, ap, ◌∙◌}
-use Rattle.std.specs.Prelude.{Some, None, Ok}
+use Rattle.std.specs.Prelude.{Option, Some, None, Result, Ok, Err, IfOk, OnErr}
+use Rattle.std.specs.declared.alloc.AllocError.{AllocError}
+use Rattle.std.specs.Option.{unwrap_or}
 use Rattle.std.specs.Bool.{Decides}
 use Rattle.std.specs.Ordering.{is_eq, nat_cmp, ordering_then}
 use Rattle.std.specs.declared.cmp.Ordering.{Ordering}
@@ -11,10 +13,9 @@ use Rattle.std.proofs.lemmas.Bool.Decides.{Decides-eqb, not_from_Decides, same_f
 use Rattle.std.proofs.lemmas.Grind.{get_or-set_at}
 use Rattle.std.proofs.lemmas.List.{get_or-set_other}
 use Rattle.fcg_views.specs.Breaks.Pool.{Entries, text_of}
-use Rattle.std.proofs.lemmas.Option.{none-some}
 use Rattle.fcg_grammar.proofs.Standing.{ok_is}
 use Rattle.fcg_laws.proofs.WordLaws.{same_text}
-use Rattle.fcg_class.specs.Firsts.{Known, text_cmp, first_in, AreKnown, Grows, AreFirsts}
+use Rattle.fcg_class.specs.Firsts.{Known, text_cmp, first_in, Adds, AreKnown, Grows, AreFirsts}
 
 pub some_is : (a b : ℕ) → Some a ≡ Some b → a ≡ b
 some_is a b e = cc
@@ -41,10 +42,6 @@ one_text pool known are i p q at_p at_q = ok_is p q (sym (are p i at_p) ∙ are 
 
 -- ---- a text more
 
--- the map has this text now, by this index
-abbrev pub Adds : Known → Known → List ℕ → ℕ → Type 0
-Adds old new here index = (t : List ℕ) → first_in new t ≡ cond (is_eq (text_cmp (length here, here) (length t, t))) (Some index) (first_in old t)
-
 pub both_equal : (a b : Ordering) → is_eq (ordering_then a b) ≡ (is_eq a && is_eq b)
 both_equal Less b = refl
 both_equal Equal b = refl
@@ -69,22 +66,47 @@ text_ties s t =
 after : (old new : Known) (here : List ℕ) (index : ℕ) → Adds old new here index → (t : List ℕ) → first_in new t ≡ cond (pointwise nat_eq here t) (Some index) (first_in old t)
 after old new here index adds t = adds t ∙ rw (text_ties here t) refl
 
-pub added_first : (old new : Known) (here : List ℕ) (index : ℕ) → Adds old new here index → first_in new here ≡ Some index
-added_first old new here index adds = after old new here index adds here ∙ rw ((same_text here here).1 refl) refl
+pub added_first : (old new : Known) (here : List ℕ) (first : ℕ) → Adds old new here first → first_in new here ≡ Some first
+added_first old new here first adds = after old new here first adds here ∙ rw ((same_text here here).1 refl) refl
 
-pub added_grows : (old new : Known) (here : List ℕ) (index : ℕ) → first_in old here ≡ None → Adds old new here index → Grows old new
-added_grows old new here index none adds t c e = after old new here index adds t ∙ rw (differs (at_bool (pointwise nat_eq here t))) e
+pub added_grows : (old new : Known) (here : List ℕ) (index first : ℕ) → first ≡ unwrap_or (first_in old here) index → Adds old new here first → Grows old new
+added_grows old new here index first is adds t c e = after old new here first adds t ∙ split (at_bool (pointwise nat_eq here t))
   where
-    differs : (pointwise nat_eq here t ≡ true) ⊎ (pointwise nat_eq here t ≡ false) → pointwise nat_eq here t ≡ false
-    differs (inl same) = absurd (none-some c (sym none ∙ ap (λ (u : List ℕ). first_in old u) ((same_text here t).0 same) ∙ e))
-    differs (inr other) = other
+    split : (pointwise nat_eq here t ≡ true) ⊎ (pointwise nat_eq here t ≡ false) → cond (pointwise nat_eq here t) (Some first) (first_in old t) ≡ Some c
+    split (inl same) =
+        let had : first_in old here ≡ Some c = ap (λ (u : List ℕ). first_in old u) ((same_text here t).0 same) ∙ e in
+        rw same (ap Some (is ∙ ap (λ (o : Option ℕ). unwrap_or o index) had))
+    split (inr other) = rw other e
 
-pub added_known : (pool : Entries) (old new : Known) (here : List ℕ) (index : ℕ) → text_of pool index ≡ Ok here → Adds old new here index → AreKnown pool old → AreKnown pool new
-added_known pool old new here index at adds are t c e = back (at_bool (pointwise nat_eq here t)) (sym (after old new here index adds t) ∙ e)
+pub added_known : (pool : Entries) (old new : Known) (here : List ℕ) (index first : ℕ) → text_of pool index ≡ Ok here → first ≡ unwrap_or (first_in old here) index → Adds old new here first → AreKnown pool old → AreKnown pool new
+added_known pool old new here index first at is adds are t c e = back (at_bool (pointwise nat_eq here t)) (sym (after old new here first adds t) ∙ e)
   where
-    back : (pointwise nat_eq here t ≡ true) ⊎ (pointwise nat_eq here t ≡ false) → cond (pointwise nat_eq here t) (Some index) (first_in old t) ≡ Some c → text_of pool c ≡ Ok t
-    back (inl same) e2 = ap (λ (n : ℕ). text_of pool n) (sym (some_is index c (rw same at e2))) ∙ at ∙ ap Ok ((same_text here t).0 same)
+    named : (o : Option ℕ) → first_in old here ≡ o → text_of pool (unwrap_or o index) ≡ Ok here
+    named None had = at
+    named (Some f) had = are here f had
+
+    back : (pointwise nat_eq here t ≡ true) ⊎ (pointwise nat_eq here t ≡ false) → cond (pointwise nat_eq here t) (Some first) (first_in old t) ≡ Some c → text_of pool c ≡ Ok t
+    back (inl same) e2 = ap (λ (n : ℕ). text_of pool n) (sym (some_is first c (rw same at e2)) ∙ is) ∙ named (first_in old here) refl ∙ ap Ok ((same_text here t).0 same)
     back (inr other) e2 = are t c (rw other at e2)
+
+-- what a call leaves that adds a text, with memory or without
+pub record IsLeft (pool : Entries) (old new : Known) (here : List ℕ) (result : Result ℕ AllocError) : Type 0 where
+  pub grows : Grows old new
+  pub known : AreKnown pool new
+  pub first : IfOk result (λ first. first_in new here ≡ Some first)
+
+pub left_of : (pool : Entries) (old new : Known) (here : List ℕ) (index : ℕ) (result : Result ℕ AllocError) → text_of pool index ≡ Ok here → AreKnown pool old
+    → IfOk result (λ first. first ≡ unwrap_or (first_in old here) index) → IfOk result (Adds old new here) → OnErr result ((t : List ℕ) → first_in new t ≡ first_in old t) → IsLeft pool old new here result
+left_of pool old new here index (Ok first) at are is adds same = record {
+  grows = added_grows old new here index first is adds;
+  known = added_known pool old new here index first at is adds are;
+  first = added_first old new here first adds;
+}
+left_of pool old new here index (Err e) at are is adds same = record {
+  grows = λ t c e. same t ∙ e;
+  known = λ t c e. are t c (sym (same t) ∙ e);
+  first = is;
+}
 
 pub firsts_grow : (pool : Entries) (old new : Known) (firsts : List ℕ) → Grows old new → AreFirsts pool old firsts → AreFirsts pool new firsts
 firsts_grow pool old new firsts grows are i text at some = grows text (get_or firsts i 0) (are i text at some)

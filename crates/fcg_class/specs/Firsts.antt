@@ -1,7 +1,7 @@
 -- The first indexes of a pool's texts, of those that were asked for.
-use Rattle.std.specs.Prelude.{◌≡◌, ℕ, List, length, slice_index_or, Option, Some, Ok}
+use Rattle.std.specs.Prelude.{◌≡◌, ℕ, List, length, slice_index_or, Option, Some, Ok, if◌then◌else◌}
 use Rattle.std.specs.Borrow.{Bor}
-use Rattle.std.specs.Ordering.{nat_cmp, ordering_then}
+use Rattle.std.specs.Ordering.{is_eq, nat_cmp, ordering_then}
 use Rattle.std.specs.declared.cmp.Ordering.{Ordering}
 use Rattle.std.specs.Cmp.Lexicographic.{slice_cmp}
 use Rattle.std.specs.BTreeMap as tree
@@ -19,6 +19,10 @@ text_cmp x y = ordering_then (nat_cmp x.0 y.0) (slice_cmp nat_cmp x.1 y.1)
 -- the index that a map has for a text
 abbrev pub first_in : Known → List ℕ → Option ℕ
 first_in known text = tree.get_by (λ key. text_cmp (length text, text) (key.0, key.1.now)) known
+
+-- a map has this text, by this index, beside the texts of another
+abbrev pub Adds : Known → Known → List ℕ → ℕ → Type 0
+Adds old new here index = (t : List ℕ) → first_in new t ≡ if is_eq (text_cmp (length here, here) (length t, t)) then Some index else first_in old t
 
 -- what a map has is an index of the text
 abbrev pub AreKnown : Entries → Known → Type 0

@@ -1,8 +1,9 @@
 //! Which texts of a constant pool are the same, so that they are compared once for each Utf8 and not for each use.
-ghost use Rattle.std.specs.Prelude.{◌≡◌, IfOk, Ok, Some, slice_index_or};
+ghost use Rattle.std.specs.Prelude.{◌≡◌, ℕ, List, IfOk, OnErr, Ok, Some, slice_index_or};
+ghost use Rattle.std.specs.Option.{unwrap_or};
 ghost use Rattle.std.specs.BTreeMap.{IsEmpty};
 ghost use Rattle.fcg_views.specs.Breaks.Pool.{text_of};
-ghost use Rattle.fcg_class.specs.Firsts.{first_in, Grows, AreAsked, AllUnasked};
+ghost use Rattle.fcg_class.specs.Firsts.{first_in, Adds, Grows, AreAsked, AllUnasked};
 
 use fcg_pool::{Pool, Text};
 use std::alloc::{AllocError, Global};
@@ -33,21 +34,8 @@ impl<'a> FirstTexts<'a> {
         })
     }
 
-    /// The first index of a text, where the text was added. Of a Utf8 that was added it takes constant time, of another
-    /// a logarithm of the number of texts in comparisons, each as long as the text at most.
-    pub fn find(&self, text: &Text<'a>) -> Option<u16>
-        requires asked { AreAsked self.now.pool.now self.now.known self.now.firsts.items }
-        requires text { text_of self.now.pool.now text.now.index ≡ Ok text.now.bytes.now }
-        ensures { result ≡ first_in self.now.known text.now.bytes.now }
-    {
-        let first = first_of(&self.firsts, text.index);
-        if first != 0 {
-            return Some(first);
-        }
-        find_known(&self.known, text.bytes)
-    }
-
-    /// Adds a text, and gives its first index. It takes as much time as `find`.
+    /// Adds a text, and gives its first index. Of a Utf8 that was added it takes constant time, of another a logarithm of
+    /// the number of texts in comparisons of lengths, and of bytes where these are the same.
     pub fn add(&mut self, text: &Text<'a>) -> Result<u16, AllocError>
         requires asked { AreAsked self.old.pool.now self.old.known self.old.firsts.items }
         requires text { text_of self.old.pool.now text.now.index ≡ Ok text.now.bytes.now }
@@ -72,12 +60,11 @@ impl<'a> FirstTexts<'a> {
         ensures asked { AreAsked self.new.pool.now self.new.known self.new.firsts.items }
         ensures same { self.new.pool.now ≡ self.old.pool.now }
     {
-        if let Some(first) = self.find(text) {
+        let first = first_of(&self.firsts, text.index);
+        if first != 0 {
             return Ok(first);
         }
-        self.known
-            .insert((text.bytes.len(), text.bytes), text.index)?;
-        Ok(text.index)
+        first_or_insert(&mut self.known, text)
     }
 
     /// Adds a name and a descriptor, as `add` does, and gives their first indexes.
@@ -114,12 +101,17 @@ fn first_of(firsts: &[u16], index: u16) -> u16
     }
 }
 
-// The index that a map has for a text.
-fn find_known<'a>(known: &BTreeMap<(usize, &'a [u8]), u16>, text: &'a [u8]) -> Option<u16>
-    ensures { result ≡ first_in known.now text.now }
+// The index that a map has for a text; where it has none, it has that of the text afterwards.
+fn first_or_insert<'a>(
+    known: &mut BTreeMap<(usize, &'a [u8]), u16>,
+    text: &Text<'a>,
+) -> Result<u16, AllocError>
+    ensures first { IfOk result (λ first. first ≡ unwrap_or (first_in known.old text.now.bytes.now) text.now.index) }
+    ensures adds { IfOk result (λ first. Adds known.old known.new text.now.bytes.now first) }
+    ensures err { OnErr result ((t : List ℕ) → first_in known.new t ≡ first_in known.old t) }
 {
-    match known.get(&(text.len(), text)) {
-        Some(first) => Some(*first),
-        None => None,
-    }
+    let first = known
+        .entry((text.bytes.len(), text.bytes))?
+        .or_insert(text.index);
+    Ok(*first)
 }

@@ -5,7 +5,7 @@ ghost use Rattle.std.specs.Option.{option_map};
 ghost use Rattle.fcg_views.specs.Coordinate.{parted};
 
 // The place of the first byte that is this one.
-fn find_byte(text: &[u8], byte: u8) -> Option<usize>
+pub fn find_byte(text: &[u8], byte: u8) -> Option<usize>
     ensures value { result ≡ position (λ b. b == byte) text.now }
     ensures within { IfSome result (λ at. at < length text.now) }
 {

@@ -7,6 +7,7 @@ pub mod Distinct
 pub mod GroupLemmas
 pub mod InstructionPlaces
 pub mod PartLaws
+pub mod DescPasses
 pub mod CoordinateLaws
 pub mod EscapeLaws
 pub mod UriLaws

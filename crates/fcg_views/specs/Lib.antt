@@ -2,6 +2,7 @@ pub mod Escape
 pub mod Place
 pub mod Descriptor
 pub mod DescSteps
+pub mod DescPasses
 pub mod ClassFile
 pub mod Constants
 pub mod Instructions

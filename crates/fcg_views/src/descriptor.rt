@@ -1,8 +1,11 @@
-//! Field and method descriptors (JVMS 4.3.2, 4.3.3), read byte by byte.
-ghost use Rattle.std.specs.Prelude.{◌≡◌, ◌-◌, ◌^◌, ◌≤◌, ◌<◌, ℕ, length, min, Some, IfSome, IfOk, IfErr, IsOk, IsTrue, is_ok};
+//! Field and method descriptors (JVMS 4.3.2, 4.3.3), read byte by byte, but each class at once.
+ghost use Rattle.std.specs.Prelude.{◌≡◌, ◌-◌, ◌^◌, ◌≤◌, ◌<◌, length, min, Some, IfSome, IfOk, IfErr, IsOk, is_ok};
 ghost use Rattle.fcg_views.specs.DescBounds.{IsSmall};
+ghost use Rattle.fcg_views.specs.DescPasses.{class_step, LeadsTo};
 ghost use Rattle.fcg_views.specs.Descriptor.{Spans, FaultAt, IsFieldDescriptor, FieldFaultAt};
 ghost use Rattle.fcg_views.specs.DescSteps.{is_letter, letter_units, taken, parameter_step, array_step, name_step, result_step, result_array_step, result_name_step, step, fault_at, ended, scan_from, told, descriptor_of, begins_with_void, field_descriptor_of, is_field_descriptor};
+
+use crate::parting::find_byte;
 
 /// What a method descriptor says of its parameters.
 #[derive(Clone, Copy, Debug, PartialEq, Eq)]
@@ -228,19 +231,43 @@ fn ended(state: DescState, at: usize) -> Result<DescSpan, DescFault>
     }
 }
 
-// Whether a byte goes on with the name of a class after another byte of it, so that the state stays as it is.
-fn stays(state: DescState, byte: u8) -> bool
-    ensures { IsTrue result → (at : ℕ) → step state at byte ≡ Some state }
+// The state after a whole class, from its `L` to its `;`; none where no class can stand.
+fn class_step(state: DescState) -> Option<DescState>
+    requires { IsSmall state }
+    ensures value { result ≡ class_step state }
+    ensures small { IfSome result IsSmall }
 {
-    let is_in_name = matches!(
-        state,
-        DescState::Name(_, _, true) | DescState::ReturnedName(_, true)
-    );
-    is_in_name && byte != b';'
+    match state {
+        DescState::Parameters(count, units) | DescState::Array(count, units, _) => {
+            taken(count, units, 1)
+        }
+        DescState::Returned(span) | DescState::ReturnedArray(span, _) => {
+            Some(DescState::Done(span))
+        }
+        _ => None,
+    }
 }
 
-// The state that a text leads to from a first one, or the place of the first byte without a step. Most bytes are those
-// of names, which are passed over without one.
+// The state after a whole class that stands at a place, and the place after it; none where no class stands there.
+fn pass_class(state: DescState, text: &[u8], at: usize) -> Option<(DescState, usize)>
+    requires small { IsSmall state }
+    requires within { at < length text.now }
+    ensures { IfSome result (LeadsTo text.now state at) }
+{
+    if text[at] != b'L' {
+        return None;
+    }
+    let next = class_step(state)?;
+    let size = find_byte(&text[at + 1..], b';')?;
+    if size > 0 {
+        Some((next, at + size + 2))
+    } else {
+        None
+    }
+}
+
+// The state that a text leads to from a first one, or the place of the first byte without a step. A whole class is one
+// step.
 fn scan_from(start: DescState, text: &[u8]) -> Result<DescState, usize>
     requires { IsSmall start }
     ensures { result ≡ scan_from 0 start text.now }
@@ -248,16 +275,13 @@ fn scan_from(start: DescState, text: &[u8]) -> Result<DescState, usize>
     let mut state = start;
     let mut at = 0;
     while at < text.len() {
-        while at < text.len() && stays(state, text[at]) {
-            at += 1;
-        }
-        if at < text.len() {
-            match step(state, at, text[at]) {
-                Some(next) => state = next,
+        (state, at) = match pass_class(state, text, at) {
+            Some(passed) => passed,
+            None => match step(state, at, text[at]) {
+                Some(next) => (next, at + 1),
                 None => return Err(at),
-            }
-            at += 1;
-        }
+            },
+        };
     }
     Ok(state)
 }

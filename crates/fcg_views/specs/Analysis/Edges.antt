@@ -6,7 +6,6 @@ use Rattle.fcg_views.specs.declared.view.SiteKind.TheVariants.{Virtual, Interfac
 use Rattle.fcg_views.specs.declared.view.HandleKind.{HandleKind}
 use Rattle.fcg_views.specs.declared.view.HandleKind.TheVariants.{K5, K6, K7, K8, K9}
 use Rattle.fcg_views.specs.declared.view.Site.{Site}
-use Rattle.fcg_views.specs.Analysis.Words.{}
 use Rattle.fcg_views.specs.Analysis.Says.{Placed, signature_in, is_class, is_abstract_type, is_static, is_instance, is_abstract, has_array_owner}
 use Rattle.fcg_views.specs.Analysis.Types.{is_below}
 use Rattle.fcg_views.specs.Analysis.Nodes.{Node, nodes, is_node}

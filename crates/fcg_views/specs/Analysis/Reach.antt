@@ -1,5 +1,5 @@
 -- The methods that reach a target, over any list of edges between the nodes below a count.
-use Rattle.std.specs.Prelude.{◌≡◌, ◌<◌, ℕ, zero, suc, ◌+◌, List, [], ◌∷◌, Bool, true, false, ◌&&◌, ◌==◌, Option, Some, None, filter, find, filter_map, option_map}
+use Rattle.std.specs.Prelude.{◌≡◌, ◌<◌, ℕ, zero, suc, ◌+◌, List, [], ◌∷◌, Bool, true, false, ◌&&◌, ◌==◌, Option, Some, filter, find, filter_map, option_map}
 use Rattle.std.specs.List.{list_any, range_with_len}
 
 abbrev pub Edges : Type 0

@@ -8,11 +8,3 @@ invariant-loop-at l = (scan_from l.at l.state (drop l.at l.text) ≡ scan_from 0
 
 abbrev pub decreases-loop-at : goal.decreases-loop-at
 decreases-loop-at l = length l.text - l.at
-
-abbrev pub invariant-loop-at-2 : goal.invariant-loop-at-2
-invariant-loop-at-2 l =
-    (scan_from l.at l.state (drop l.at l.text) ≡ scan_from 0 l.fn.start l.text) × IsSmall l.state × (l.at ≤ length l.text)
-    × (l.initial.at ≤ l.at)
-
-abbrev pub decreases-loop-at-2 : goal.decreases-loop-at-2
-decreases-loop-at-2 l = length l.text - l.at

@@ -1,11 +1,9 @@
 -- Texts that are cut at a byte, and the first byte that passes a test.
-use Rattle.std.proofs.Common.{◌≡◌, ℕ, zero, suc, ◌+◌, ◌-◌, ◌≤◌, Bool, true, false, ltb, List, [], ◌∷◌, ◌++◌, length, take, drop, refl, sym, ap, subst, ◌∙◌, arith}
-use Rattle.std.specs.Prelude.{Option, Some, None, ◌==◌, ◌||◌, if◌then◌else◌}
+use Rattle.std.proofs.Common.{◌≡◌, ℕ, suc, ◌+◌, Bool, true, false, ltb, List, [], ◌∷◌, ◌++◌, length, take, drop, refl, sym, ap, subst, ◌∙◌, arith}
+use Rattle.std.specs.Prelude.{Option, Some, None, ◌==◌, if◌then◌else◌}
 use Rattle.std.specs.List.{position, position_or_len, list_any, AllByRecursion}
 use Rattle.std.specs.Option.{option_map}
 use Rattle.std.proofs.lemmas.Bool.{eqb-true}
-use Rattle.std.proofs.lemmas.List.{length-take, take_rest, take-append-drop}
-use Rattle.std.proofs.lemmas.List.Folds.{list_any-append}
 use Rattle.std.proofs.lemmas.Bool.Decides.{nat_tests}
 use Rattle.fcg_views.specs.Coordinate.{parted}
 
@@ -27,47 +25,6 @@ position_next p x xs = by (p x) refl (ltb (position_or_len p xs) (length xs)) re
         let n : 1 + position_or_len p xs ≡ suc (position_or_len p xs) = omega arith in
         let g : ltb (suc (position_or_len p xs)) (suc (length xs)) ≡ false = grind (arith, nat_tests) in
         rw (e, n, g, f) refl
-
-either_false : (a b : Bool) → (a || b) ≡ false → (a ≡ false) × (b ≡ false)
-either_false true b e = absurd cc
-either_false false b e = (refl, e)
-
-nothing_before : (o : Option ℕ) → o ≡ option_map (λ n. 0 + n) o
-nothing_before None = refl
-nothing_before (Some n) = ap (λ (k : ℕ). Some k) (omega arith)
-
-one_before : (k : ℕ) (o : Option ℕ) → option_map suc (option_map (λ n. k + n) o) ≡ option_map (λ n. suc k + n) o
-one_before k None = refl
-one_before k (Some n) = ap (λ (m : ℕ). Some m) (omega arith)
-
--- items in front that don't pass
-position_past : {X : Type 0} (p : X → Bool) (front back : List X) → list_any p front ≡ false → position p (front ++ back) ≡ option_map (λ n. length front + n) (position p back)
-position_past p [] back none = nothing_before (position p back)
-position_past p (x ∷ front) back none =
-    let parts = either_false (p x) (list_any p front) none in
-    position_next p x (front ++ back) ∙ rw (parts.0, position_past p front back parts.1) (one_before (length front) (position p back))
-
--- the items before a place and a block of those after it
-take_sum : {X : Type 0} (i k n : ℕ) (xs : List X) → n ≡ i + k → n ≤ length xs → take n xs ≡ take i xs ++ take k (drop i xs)
-take_sum zero k n xs e fits = let same : n ≡ k = omega arith in rw same refl
-take_sum (suc i) k zero xs e fits = absurd (omega arith)
-take_sum (suc i) k (suc n) [] e fits = absurd (omega arith)
-take_sum {X} (suc i) k (suc n) (x ∷ xs) e fits = ap (λ (l : List X). x ∷ l) (take_sum i k n xs (omega arith) (omega arith))
-
--- none passes before a block or in it
-pub past_block : {X : Type 0} (p : X → Bool) (xs : List X) (i k : ℕ) → list_any p (take i xs) ≡ false → i + k ≤ length xs → false ≡ list_any p (take (i + k - i) (drop i xs)) → list_any p (take (i + k) xs) ≡ false
-past_block p xs i k before fits block =
-    let size : i + k - i ≡ k = omega arith in
-    let here : list_any p (take k (drop i xs)) ≡ false = ap (λ (n : ℕ). list_any p (take n (drop i xs))) (sym size) ∙ sym block in
-    ap (list_any p) (take_sum i k (i + k) xs refl fits) ∙ list_any-append p (take i xs) (take k (drop i xs)) ∙ rw (before, here) refl
-
--- the place, by that in what follows
-pub place_after : {X : Type 0} (p : X → Bool) (xs : List X) (i : ℕ) (o : Option ℕ) → list_any p (take i xs) ≡ false → i ≤ length xs → o ≡ position p (take (length xs - i) (drop i xs)) → option_map (λ n. i + n) o ≡ position p xs
-place_after p xs i o before fits near =
-    let long : length (take i xs) ≡ i = omega (arith, length-take i xs) in
-    let rest : o ≡ position p (drop i xs) = near ∙ ap (position p) (take_rest xs i) in
-    let past : position p xs ≡ option_map (λ n. length (take i xs) + n) (position p (drop i xs)) = ap (position p) (sym (take-append-drop i xs)) ∙ position_past p (take i xs) (drop i xs) before in
-    sym (past ∙ ap (λ (k : ℕ). option_map (λ n. k + n) (position p (drop i xs))) long ∙ ap (option_map (λ n. i + n)) (sym rest))
 
 -- ---- cut at a byte
 

@@ -1,10 +1,12 @@
 -- Texts that are cut at a byte, and the first byte that passes a test.
-use Rattle.std.proofs.Common.{◌≡◌, ℕ, suc, ◌+◌, Bool, true, false, ltb, List, [], ◌∷◌, ◌++◌, length, take, drop, refl, sym, ap, subst, ◌∙◌, arith}
+use Rattle.std.proofs.Common.{◌≡◌, ℕ, zero, suc, ◌+◌, ◌<◌, get_or, Bool, true, false, ltb, List, [], ◌∷◌, ◌++◌, length, take, drop, refl, sym, ap, subst, ◌∙◌, arith}
 use Rattle.std.specs.Prelude.{Option, Some, None, ◌==◌, if◌then◌else◌}
 use Rattle.std.specs.List.{position, position_or_len, list_any, AllByRecursion}
 use Rattle.std.specs.Option.{option_map}
 use Rattle.std.proofs.lemmas.Bool.{eqb-true}
 use Rattle.std.proofs.lemmas.Bool.Decides.{nat_tests}
+use Rattle.std.proofs.lemmas.List.Quantifiers.{position-Some}
+use Rattle.memchr.specs.Find.{IsFirstByte, is_byte}
 use Rattle.fcg_views.specs.Coordinate.{parted}
 
 -- ---- the place of the first that passes
@@ -128,3 +130,27 @@ all_by P Q (x ∷ xs) f all = (f x all.0, all_by P Q xs f all.1)
 pub all_of_two : {X : Type 0} (P Q R : X → Type 0) (xs : List X) → ((x : X) → P x → Q x → R x) → AllByRecursion P xs → AllByRecursion Q xs → AllByRecursion R xs
 all_of_two P Q R [] f a b = tt
 all_of_two P Q R (x ∷ xs) f a b = (f x a.0 b.0, all_of_two P Q R xs f a.1 b.1)
+
+-- ---- the first place that a search finds
+
+at_each : (P : ℕ → Type 0) (xs : List ℕ) → AllByRecursion P xs → (k : ℕ) → k < length xs → P (get_or xs k 0)
+at_each P [] all k lt = absurd (omega (arith, lt))
+at_each P (x ∷ xs) all zero lt = all.0
+at_each P (x ∷ xs) all (suc k) lt = at_each P xs all.1 k (omega (arith, lt))
+
+pub first_byte : (b : ℕ) (text : List ℕ) (r : Option ℕ) → IsFirstByte (is_byte b) text r → r ≡ position (λ x. x == b) text
+first_byte b text r is = by r is (position (λ x. x == b) text) refl
+  where
+    differ : (c : Bool) → c ≡ true → c ≡ false → ⊥
+    differ c e f = cc
+
+    same : (k i : ℕ) → (k < i → ⊥) → (i < k → ⊥) → k ≡ i
+    same k i first second = grind (arith, first, second)
+
+    by : (r : Option ℕ) → IsFirstByte (is_byte b) text r → (o : Option ℕ) → position (λ x. x == b) text ≡ o → r ≡ o
+    by None is None at = refl
+    by None is (Some i) at = let s = position-Some (λ x. x == b) text i 0 at in absurd (is i (omega arith) s.0 s.1)
+    by (Some k) is None at = absurd (differ (get_or text k 0 == b) is.1 (at_each (λ x. (x == b) ≡ false) text (none_passes (λ x. x == b) text at) k is.0.high))
+    by (Some k) is (Some i) at =
+        let s = position-Some (λ x. x == b) text i 0 at in
+        ap (λ (n : ℕ). Some n) (same k i (λ lt. differ (get_or text k 0 == b) is.1 (s.2 k lt)) (λ lt. is.0.before i (omega arith) lt s.1))

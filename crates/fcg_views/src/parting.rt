@@ -4,12 +4,15 @@ ghost use Rattle.std.specs.List.{position};
 ghost use Rattle.std.specs.Option.{option_map};
 ghost use Rattle.fcg_views.specs.Coordinate.{parted};
 
-// The place of the first byte that is this one.
+use memchr::memchr;
+
+/// The place of the first byte that is this one.
+#[tactic(auto, using(crate::proofs::PartLaws::first_byte))]
 pub fn find_byte(text: &[u8], byte: u8) -> Option<usize>
     ensures value { result ≡ position (λ b. b == byte) text.now }
     ensures within { IfSome result (λ at. at < length text.now) }
 {
-    text.iter().position(|b| *b == byte)
+    memchr(byte, text)
 }
 
 // The bytes before the first one that is this one, and those after it.

@@ -151,7 +151,8 @@ fn read_found(
 /// opcode in the file; the name of an attribute of the code is no text; bytes stand after the last attribute.
 ///
 /// Makes one pass over the code, and passes over the exception table by its rows and over the attributes by their
-/// lengths. It takes memory for the sites and the calls.
+/// lengths. It takes memory for the sites and the calls; that of the sites is at first for one for each eight bytes of
+/// the code, and what isn't used is given back.
 #[tactic(auto, unfolding(fcg_views::specs::Breaks::Code::code_at), using(crate::proofs::SiteLemmas::found_over))]
 pub fn read_code(
     alloc: Global,

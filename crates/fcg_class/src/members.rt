@@ -182,8 +182,8 @@ fn read_method_rows(
 
 /// The methods whose count stands at a place, with the sites of their instructions and their calls, and the place after
 /// them. It makes one pass over the code of each, and for each method a logarithm of their number in comparisons of
-/// indexes; texts are compared, and descriptors read, once for each Utf8 of the pool. It takes memory for the methods,
-/// their sites and their calls.
+/// indexes; texts are compared, and descriptors read, once for each Utf8 of the pool. It takes memory for as many methods
+/// as the count says, for their sites and their calls.
 #[tactic(auto, unfolding(fcg_views::specs::Breaks::Members::methods_at))]
 pub fn read_methods(
     alloc: Global,

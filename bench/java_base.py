@@ -63,7 +63,7 @@ def options_of():
 def main():
     """Makes the bundle and prints the rows."""
     options = options_of()
-    os.environ.setdefault("GLIBC_TUNABLES", "glibc.malloc.hugetlb=1")
+    os.environ.setdefault("GLIBC_TUNABLES", "glibc.malloc.hugetlb=1:glibc.malloc.top_pad=4194304")
     homes = real_input.jdks()
     if not homes:
         sys.exit("there is no JDK")

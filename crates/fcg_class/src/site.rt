@@ -71,6 +71,7 @@ fn is_dynamic(opcode: u8) -> bool
 
 // The member of a type that an index names, by a constant of one of these tags and with a descriptor of a kind. A fault
 // is at the given place of the file.
+#[inline(always)]
 #[tactic(auto, unfolding(fcg_views::specs::Breaks::Code::member_of))]
 fn find_member<'a>(
     names: &mut ClassNames<'a>,
@@ -97,6 +98,7 @@ fn find_member<'a>(
 }
 
 // A member of a type.
+#[inline(always)]
 fn make_ref(names: &mut ClassNames<'_>, member: &RefTexts<'_>) -> Result<Ref, NoMemory>
     requires { AreRefTexts names.old member.now }
     ensures ok { IfOk result (λ target. target ≡ ref_of member.now) }
@@ -111,7 +113,6 @@ fn make_ref(names: &mut ClassNames<'_>, member: &RefTexts<'_>) -> Result<Ref, No
 }
 
 // The member of a type that an index names, by a constant of one of these tags and with a descriptor of a kind.
-#[inline(always)]
 fn read_member(
     names: &mut ClassNames<'_>,
     kind: DescKind,

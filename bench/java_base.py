@@ -22,6 +22,9 @@ import measure
 import plain
 import real_input
 
+# what ./fcg sets for glibc
+TUNABLES = "glibc.malloc.hugetlb=1:glibc.malloc.top_pad=4194304:glibc.malloc.mmap_threshold=1073741824"
+
 PROGRAM = os.path.join(measure.TOP, "crates", "fcg_tool", "out", "fcg_tool")
 
 
@@ -63,7 +66,7 @@ def options_of():
 def main():
     """Makes the bundle and prints the rows."""
     options = options_of()
-    os.environ.setdefault("GLIBC_TUNABLES", "glibc.malloc.hugetlb=1:glibc.malloc.top_pad=4194304")
+    os.environ.setdefault("GLIBC_TUNABLES", TUNABLES)
     homes = real_input.jdks()
     if not homes:
         sys.exit("there is no JDK")

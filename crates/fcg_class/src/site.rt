@@ -146,6 +146,7 @@ fn read_type_ref(
 }
 
 // What a site names by an index. A fault is at the given place of the file.
+#[inline(always)]
 fn read_target(
     names: &mut ClassNames<'_>,
     target: Target,

@@ -6,11 +6,11 @@ use Rattle.std.specs.Cmp.Lexicographic.{bytes_decides}
 use Rattle.std.proofs.lemmas.Bool.{or_cases, or_left, or_right, and_from}
 use Rattle.std.specs.Cmp.{both_ways}
 use Rattle.fcg_views.specs.declared.view.Method.{Method}
-use Rattle.fcg_views.specs.Analysis.Words.{same, before, package_of}
-use Rattle.fcg_views.specs.Analysis.Says.{Placed, is_type, is_instance, is_private, is_public, is_protected, is_package_private, has_signature, signature_of}
-use Rattle.fcg_views.specs.Analysis.Types.{chain, superclass}
-use Rattle.fcg_views.specs.Analysis.Nodes.{Node, nodes, nodes_from}
-use Rattle.fcg_views.specs.Analysis.Selection.{between, same_package, overrides_itself, may_override, overrides_over, can_override}
+use Rattle.fcg_analysis.specs.Words.{same, before, package_of}
+use Rattle.fcg_analysis.specs.Says.{Placed, is_type, is_instance, is_private, is_public, is_protected, is_package_private, has_signature, signature_of}
+use Rattle.fcg_analysis.specs.Types.{chain, superclass}
+use Rattle.fcg_analysis.specs.Nodes.{Node, nodes, nodes_from}
+use Rattle.fcg_analysis.specs.Selection.{between, same_package, overrides_itself, may_override, overrides_over, can_override}
 use Rattle.fcg_analysis.specs.Laws.{IsAcyclic, chain_above, hands_on, overrides_shortly, overrides_by_cases}
 use Rattle.fcg_analysis.proofs.ChainLaws.{chain_goes_on, chain_rest}
 use Rattle.fcg_analysis.proofs.General.Members.{Contains-from_IsIn, IsIn, IsIn-from_Contains, and_first, and_second, any_in, before_less, in_any, in_append, split}

@@ -4,8 +4,8 @@ use Rattle.std.specs.Prelude.{Bool, true, ◌||◌, ◌==◌, Contains}
 use Rattle.std.specs.List.{list_any, range_with_len}
 use Rattle.std.proofs.lemmas.Bool.{or_cases}
 use Rattle.std.proofs.lemmas.Bool.Decides.{Decides-eqb}
-use Rattle.fcg_views.specs.Analysis.Walks.{Walk, step, onward as more, led_within}
-use Rattle.fcg_views.specs.Analysis.Reach.{Edges, leads, starts, dist, has_walk, WalkOf, here, onward}
+use Rattle.fcg_analysis.specs.Walks.{Walk, step, onward as more, led_within}
+use Rattle.fcg_analysis.specs.Reach.{Edges, leads, starts, dist, has_walk, WalkOf, here, onward}
 use Rattle.fcg_analysis.specs.Laws.{DistIsLeast}
 use Rattle.fcg_analysis.proofs.General.Members.{Contains-from_IsIn, IsIn, IsIn-from_Contains, any_in, filter_in, find_none, in_any, in_filter}
 use Rattle.fcg_analysis.proofs.General.Ranges.{find_least, in_range, length-range, range_in}

@@ -1,12 +1,12 @@
 -- Why a method is selected.
 use Rattle.std.proofs.Common.{◌≡◌, List, refl, sym, subst, inl, inr}
 use Rattle.std.specs.Prelude.{Bool, true, false, cond, ◌&&◌, ◌⊎◌, find, Option, Some, None}
-use Rattle.fcg_views.specs.Analysis.Words.{or_else}
-use Rattle.fcg_views.specs.Analysis.Says.{Placed, Signature, is_type, is_private}
-use Rattle.fcg_views.specs.Analysis.Types.{chain}
-use Rattle.fcg_views.specs.Analysis.Nodes.{Node, nodes, one_default}
-use Rattle.fcg_views.specs.Analysis.Resolution.{Found, Phantom}
-use Rattle.fcg_views.specs.Analysis.Selection.{can_override, can_override_phantom, searched, selected}
+use Rattle.fcg_analysis.specs.Words.{or_else}
+use Rattle.fcg_analysis.specs.Says.{Placed, Signature, is_type, is_private}
+use Rattle.fcg_analysis.specs.Types.{chain}
+use Rattle.fcg_analysis.specs.Nodes.{Node, nodes, one_default}
+use Rattle.fcg_analysis.specs.Resolution.{Found, Phantom}
+use Rattle.fcg_analysis.specs.Selection.{can_override, can_override_phantom, searched, selected}
 use Rattle.fcg_analysis.specs.Laws.{IsInChain, IsSelected, IsItself, IsOverriding, IsDefault, IsSelectedForPhantom, IsOverridingPhantom, IsDefaultForPhantom}
 use Rattle.fcg_analysis.proofs.General.Members.{found_first, in_middle, IsIn, Contains-from_IsIn, find_in, and_first, and_second}
 

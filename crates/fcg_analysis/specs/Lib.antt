@@ -1,3 +1,13 @@
+pub mod Words
+pub mod Says
+pub mod Walks
+pub mod Types
+pub mod Nodes
+pub mod Resolution
+pub mod Selection
+pub mod Special
+pub mod Edges
+pub mod Reach
 pub mod Computed
 pub mod Short
 pub mod Sets

@@ -8,11 +8,11 @@ use Rattle.fcg_views.specs.declared.view.Site.{Site}
 use Rattle.fcg_views.specs.declared.view.Ref.{Ref}
 use Rattle.fcg_views.specs.declared.view.SiteKind.{SiteKind}
 use Rattle.fcg_views.specs.declared.view.SiteKind.TheVariants.{New}
-use Rattle.fcg_views.specs.Analysis.Says.{Placed, object_name}
-use Rattle.fcg_views.specs.Analysis.Types.{chain, is_below}
-use Rattle.fcg_views.specs.Analysis.Nodes.{nodes}
-use Rattle.fcg_views.specs.Analysis.Selection.{can_override}
-use Rattle.fcg_views.specs.Analysis.Resolution.{Outcome, Found, Phantom, Failed}
+use Rattle.fcg_analysis.specs.Says.{Placed, object_name}
+use Rattle.fcg_analysis.specs.Types.{chain, is_below}
+use Rattle.fcg_analysis.specs.Nodes.{nodes}
+use Rattle.fcg_analysis.specs.Selection.{can_override}
+use Rattle.fcg_analysis.specs.Resolution.{Outcome, Found, Phantom, Failed}
 
 -- ---- References and sites. All sites of a method stand at place 0: no rule looks at it.
 

@@ -2,11 +2,11 @@
 #![tactic(auto, unfolding(crate::specs::Computed::analysis))]
 
 ghost use Rattle.std.specs.Prelude.{◌≡◌, ℕ, List, [], ◌∷◌, Option, Some, None, map, codes, true, length};
-ghost use Rattle.fcg_views.specs.Analysis.Types.{known, named, has_gap};
-ghost use Rattle.fcg_views.specs.Analysis.Nodes.{nodes, identity};
-ghost use Rattle.fcg_views.specs.Analysis.Resolution.{KindMismatch, NoSuchMethod, Failed, Phantom, resolved};
-ghost use Rattle.fcg_views.specs.Analysis.Edges.{IsNoCall, IsMethod, IsPhantom, IsFailed, edges, statuses, phantoms, failed};
-ghost use Rattle.fcg_views.specs.Analysis.Reach.{rows};
+ghost use Rattle.fcg_analysis.specs.Types.{known, named, has_gap};
+ghost use Rattle.fcg_analysis.specs.Nodes.{nodes, identity};
+ghost use Rattle.fcg_analysis.specs.Resolution.{KindMismatch, NoSuchMethod, Failed, Phantom, resolved};
+ghost use Rattle.fcg_analysis.specs.Edges.{IsNoCall, IsMethod, IsPhantom, IsFailed, edges, statuses, phantoms, failed};
+ghost use Rattle.fcg_analysis.specs.Reach.{rows};
 ghost use Rattle.fcg_analysis.specs.Short.{names, names_of_types, names_below, number_in, method_ref, interface_ref};
 ghost use Rattle.fcg_analysis.specs.Sets.{self_call, doubled_class, doubled_class_turned, absent_interface, package_private, two_defaults, default_beside_abstract, default_below, private_and_static, special_super, special_super_moved, logging_set, circular_types, two_chains, lambda, object_present};
 

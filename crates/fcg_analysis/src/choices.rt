@@ -3,11 +3,11 @@
 #![tactic(auto, unfolding(crate::specs::Computed::analysis))]
 
 ghost use Rattle.std.specs.Prelude.{◌≡◌, ℕ, List, [], ◌∷◌, Option, Some, None, map, codes, true, false, length};
-ghost use Rattle.fcg_views.specs.Analysis.Types.{known, named, has_gap};
-ghost use Rattle.fcg_views.specs.Analysis.Nodes.{nodes};
-ghost use Rattle.fcg_views.specs.Analysis.Resolution.{KindMismatch, NoSuchMethod, Failed, resolved};
-ghost use Rattle.fcg_views.specs.Analysis.Edges.{IsNoCall, IsMethod, IsPhantom, IsFailed, edges, statuses, failed};
-ghost use Rattle.fcg_views.specs.Analysis.Reach.{rows};
+ghost use Rattle.fcg_analysis.specs.Types.{known, named, has_gap};
+ghost use Rattle.fcg_analysis.specs.Nodes.{nodes};
+ghost use Rattle.fcg_analysis.specs.Resolution.{KindMismatch, NoSuchMethod, Failed, resolved};
+ghost use Rattle.fcg_analysis.specs.Edges.{IsNoCall, IsMethod, IsPhantom, IsFailed, edges, statuses, failed};
+ghost use Rattle.fcg_analysis.specs.Reach.{rows};
 ghost use Rattle.fcg_analysis.specs.Short.{names, names_of_types, names_below, chain_names, overrides, number_in, method_ref, interface_ref};
 ghost use Rattle.fcg_analysis.specs.Choices.{circle_before_sound, object_interface, release_twice, named_twice, object_at_the_end, superclass_interface, interface_superclass, absent_superclass, object_names_interface, object_absent, first_not_specific, interface_and_object, hidden_by_static, hidden_in_interface, array_sites, array_abstract, array_named, static_between, handed_on, no_package, unrelated, interface_not_between, past_private, abstract_before_default, package_private_default, private_without_receiver, private_with_receiver, interface_alone, interface_not_abstract, static_beside_default, object_below_absent, special_past_absent, special_of_object, special_absent_superclass, special_abstract, special_static, special_private, special_of_static, inherited_init, special_interface, special_public_object, special_protected_object, handle_kinds, handle_receivers, failures};
 

@@ -2,14 +2,14 @@
 ghost use Rattle.std.specs.Prelude.{◌≡◌, ◌↔◌, ◌<◌, ◌+◌, ℕ, List, ◌∷◌, Contains, find, map, length, IsTrue, Bool, ◌&&◌, ◌||◌, Some, None};
 ghost use Rattle.std.specs.List.{IsDistinct, list_any, range_with_len};
 ghost use Rattle.std.specs.List.Sorted.{IsStrictlySortedBy};
-ghost use Rattle.fcg_views.specs.Analysis.Says.{Placed, Signature, is_named, is_type, is_class, is_interface};
-ghost use Rattle.fcg_views.specs.Analysis.Types.{winners, known, named, links, extends, implements, above, line, chain, superclass};
-ghost use Rattle.fcg_views.specs.Analysis.Walks.{Walk};
-ghost use Rattle.fcg_views.specs.Analysis.Nodes.{Node, nodes};
-ghost use Rattle.fcg_views.specs.Analysis.Resolution.{Found, Phantom};
-ghost use Rattle.fcg_views.specs.Analysis.Selection.{can_override, selected};
-ghost use Rattle.fcg_views.specs.Analysis.Edges.{edges};
-ghost use Rattle.fcg_views.specs.Analysis.Reach.{Edges, dist, next};
+ghost use Rattle.fcg_analysis.specs.Says.{Placed, Signature, is_named, is_type, is_class, is_interface};
+ghost use Rattle.fcg_analysis.specs.Types.{winners, known, named, links, extends, implements, above, line, chain, superclass};
+ghost use Rattle.fcg_analysis.specs.Walks.{Walk};
+ghost use Rattle.fcg_analysis.specs.Nodes.{Node, nodes};
+ghost use Rattle.fcg_analysis.specs.Resolution.{Found, Phantom};
+ghost use Rattle.fcg_analysis.specs.Selection.{can_override, selected};
+ghost use Rattle.fcg_analysis.specs.Edges.{edges};
+ghost use Rattle.fcg_analysis.specs.Reach.{Edges, dist, next};
 ghost use Rattle.fcg_analysis.specs.Laws.{IsAcyclic, line_above, chain_above, overrides_shortly, overrides_by_cases, unless_circular, IsEdge, edge_cmp, DistIsLeast, IsNext, IsSelected, IsSelectedForPhantom};
 
 /// The winner of a name is the first view of the name, and no two winners have one name.

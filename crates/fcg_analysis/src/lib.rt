@@ -1,6 +1,8 @@
-//! Laws of the analysis: worked cases, which the definitions of the rules compute to their numbers; cases that tell two
-//! readings of a rule apart; and laws that hold of all lists of views. The crate has no code that runs: each function is
-//! empty, and its contract is the law. It stands on the words of formats and on the views, where the rules are defined.
+//! The rules of the analysis, over a list of views with their coordinates: which types a set has, what a site's reference
+//! resolves to, which methods a call may reach, the edges between methods, and the methods that reach a target. specs/ has
+//! a definition for each. Beside them stand worked cases, which the definitions compute to their numbers; cases that tell
+//! two readings of a rule apart; and laws that hold of all lists of views. The crate has no code that runs: each function
+//! is empty, and its contract is the law. It stands on the words of formats and on the views.
 //! In proofs/General are lemmas on lists, on numbers in a row, on lists that rise and on walks, for every crate above.
 #![tactic(auto)]
 

@@ -7,7 +7,8 @@ use Rattle.std.specs.Cmp.Lexicographic.{nat_list_eq_equiv}
 use Rattle.std.proofs.lemmas.Bool.Decides.{Decides-eqb}
 use Rattle.std.proofs.lemmas.Map.Views.{Contains-from_any, list_any-from_Contains}
 use Rattle.std.proofs.lemmas.Slice.Eq.{starts_is}
-use Rattle.fcg_bytes.specs.Files.{File, below, file_at, is_same, once, path_in, paths_below, relative}
+use Rattle.fcg_bytes.specs.Files.{File, below, file_at, once, path_in, paths_below, relative}
+use Rattle.fcg_views.specs.Valid.{is_same}
 use Rattle.fcg_bytes.proofs.FileLemmas.{any-filter, relative-found, same_is}
 
 -- ---- a path is listed where there is a file

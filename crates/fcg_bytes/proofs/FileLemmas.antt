@@ -13,7 +13,8 @@ use Rattle.std.proofs.lemmas.Slice.Eq.{slice_eq-Decides, starts_is}
 use Rattle.std.proofs.lemmas.List.{drop_at, take_more, append-nil, map-append}
 use Rattle.std.proofs.lemmas.List.Elements.{filter-append, filter_map-append}
 use Rattle.std.proofs.lemmas.List.Folds.{list_any-append}
-use Rattle.fcg_bytes.specs.Files.{File, file_at, file_of, is_same, once, below, paths_below, path_in, read_answer, relative, short}
+use Rattle.fcg_bytes.specs.Files.{File, file_at, file_of, once, below, paths_below, path_in, read_answer, relative, short}
+use Rattle.fcg_views.specs.Valid.{is_same}
 use Rattle.fcg_bytes.specs.Known.{Knows, path_cmp, with_path, with_some}
 
 -- ---- the path relative to a folder

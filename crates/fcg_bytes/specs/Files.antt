@@ -2,8 +2,8 @@
 use Rattle.std.specs.Prelude.{ℕ, ◌≡◌, ◌+◌, ◌≤◌, Bool, not, List, [], ◌∷◌, ◌++◌, length, drop, map, Option, Some, None, Result, Ok, Err, IsErrOf, if◌then◌else◌, nat_eq, nat_lt, String, Vec}
 use Rattle.std.specs.List.{find, filter, filter_map, starts_with}
 use Rattle.std.specs.Option.{option_map}
-use Rattle.std.specs.Cmp.Lexicographic.{pointwise}
 use Rattle.std.specs.String.{string_bytes}
+use Rattle.fcg_views.specs.Valid.{is_same}
 use Rattle.fcg_bytes.specs.Causes.{one_more, Rose}
 use Rattle.fcg_bytes.specs.declared.files.FilesRefusal.{FilesRefusal}
 use Rattle.fcg_bytes.specs.declared.files.FilesRefusal.TheVariants as refusals
@@ -13,10 +13,6 @@ use Rattle.fcg_bytes.specs.declared.files.TheConstants.{MOST_FILES}
 pub record File : Type 0 where
   pub path : List ℕ
   pub bytes : List ℕ
-
--- two paths are the same
-abbrev pub is_same : List ℕ → List ℕ → Bool
-is_same x y = pointwise nat_eq x y
 
 -- the bytes of the file at a path: of several with that path those of the first
 abbrev pub file_at : List File → List ℕ → Option (List ℕ)

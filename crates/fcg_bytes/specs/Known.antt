@@ -8,7 +8,8 @@ use Rattle.std.specs.Cmp.Lexicographic.{slice_cmp}
 use Rattle.std.specs.BTreeSet as tree
 use Rattle.std.specs.BTreeSet.{BTreeSet}
 use Rattle.fcg_bytes.specs.Causes.{one_more}
-use Rattle.fcg_bytes.specs.Files.{FilesState, is_same}
+use Rattle.fcg_bytes.specs.Files.{FilesState}
+use Rattle.fcg_views.specs.Valid.{is_same}
 
 abbrev pub path_cmp : Bor (List ℕ) → Bor (List ℕ) → Ordering
 path_cmp x y = slice_cmp nat_cmp x.now y.now

@@ -1,7 +1,8 @@
 //! Files that are listed and read.
 ghost use Rattle.std.specs.Prelude.{◌≡◌, ◌≤◌, ◌↔◌, ℕ, List, Option, length, Contains, IfOk, IfSome, IsSome};
 ghost use Rattle.std.specs.List.{IsDistinct};
-ghost use Rattle.fcg_bytes.specs.Files.{File, Answers, Counts, file_at, is_same, list_answer, path_in, paths_below, read_answer, texts};
+ghost use Rattle.fcg_bytes.specs.Files.{File, Answers, Counts, file_at, list_answer, path_in, paths_below, read_answer, texts};
+ghost use Rattle.fcg_views.specs.Valid.{is_same};
 ghost use Rattle.fcg_bytes.specs.declared.files.FilesRefusal.TheVariants as refusals;
 
 use fcg_views::{Bytes, Paths};

@@ -4,8 +4,6 @@
 //! The crate stands on the lists of `fcg_views`.
 #![tactic(auto)]
 
-#[cfg(test)]
-mod file_tests;
 mod files;
 mod host_files;
 mod memory;
@@ -13,8 +11,6 @@ mod memory_files;
 mod sink;
 mod source;
 mod standard;
-#[cfg(test)]
-mod tests;
 
 pub use files::{Files, FilesRefusal, MOST_FILES, listed_paths_are_files};
 pub use host_files::HostFiles;

@@ -2,7 +2,8 @@
 ghost use Rattle.std.specs.Prelude.{◌≡◌, ◌↔◌, ◌≤◌, map, length, Some, Contains, IfOk, OnOk, IsErrOf, IsTrue};
 ghost use Rattle.std.specs.List.{find};
 ghost use Rattle.std.specs.Option.{option_map};
-ghost use Rattle.fcg_bytes.specs.Files.{Answers, Counts, after_call, paths_below, file_of, is_same, list_answer, read_answer, relative, texts};
+ghost use Rattle.fcg_bytes.specs.Files.{Answers, Counts, after_call, paths_below, file_of, list_answer, read_answer, relative, texts};
+ghost use Rattle.fcg_views.specs.Valid.{is_same};
 ghost use Rattle.fcg_bytes.specs.Known.{Knows, after_count, bytes_of, with_path, with_some};
 
 use crate::{Files, FilesRefusal, MOST_FILES};

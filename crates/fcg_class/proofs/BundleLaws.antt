@@ -20,19 +20,19 @@ use Rattle.fcg_grammar.proofs.Limits.{IsBytes-part}
 use Rattle.fcg_grammar.proofs.Standing.{Stands, Stands-then, Stands-front, ok_is, u2_found, u2_only, u4_found, u4_only, part_found, part_only, part_is, whole_is, is_whole}
 use Rattle.fcg_grammar.proofs.StateRowLaws.{Linked, FoundRow, rows_found, rows_only}
 use Rattle.fcg_views.specs.declared.view.View.{View}
-use Rattle.fcg_views.specs.declared.fault.ClassFault.{ClassFault}
-use Rattle.fcg_views.specs.Valid.{IsValid}
-use Rattle.fcg_views.specs.Breaks.Class.{class_of}
-use Rattle.fcg_laws.proofs.ClassLaws.{class_found, class_only}
-use Rattle.fcg_laws.proofs.Fresh.{IsFresh, AreFresh, distinct_found, distinct_only}
-use Rattle.fcg_laws.proofs.Places.{closed}
-use Rattle.fcg_laws.proofs.WordLaws.{same_text}
-use Rattle.fcg_laws.proofs.ValidLaws.{reads_valid}
+use Rattle.fcg_classfile.specs.declared.fault.ClassFault.{ClassFault}
+use Rattle.fcg_views.specs.Valid.{IsValid, is_same}
+use Rattle.fcg_classfile.specs.Breaks.Class.{class_of}
+use Rattle.fcg_classfile.proofs.ClassLaws.{class_found, class_only}
+use Rattle.fcg_classfile.proofs.Fresh.{IsFresh, AreFresh, distinct_found, distinct_only}
+use Rattle.fcg_classfile.proofs.Places.{closed}
+use Rattle.fcg_classfile.proofs.WordLaws.{same_text}
+use Rattle.fcg_classfile.proofs.ValidLaws.{reads_valid}
 use Rattle.fcg_class.specs.declared.bundle.BundleFault.{BundleFault}
 use Rattle.fcg_class.specs.declared.bundle.BundleFault.TheVariants.{Jar}
 use Rattle.fcg_class.specs.declared.bundle.BundleRule.TheVariants.{Magic, Version, Cut, Path, Trailing, ManySites}
 use Rattle.fcg_class.specs.Path.{is_path_length, is_path, is_class_path, is_versioned}
-use Rattle.fcg_class.specs.Bundle.{Entry, entry, bundle, Holds, IsEntryOf, some_of, shown, views_of, sites_in, Content, broken, is_same, path_at, in_entry, held, body_at, Begun, entry_at, entries_of, is_jar, bundle_of, BundleVerdict, IsContent, IsBroken}
+use Rattle.fcg_class.specs.Bundle.{Entry, entry, bundle, Holds, IsEntryOf, some_of, shown, views_of, sites_in, Content, broken, path_at, in_entry, held, body_at, Begun, entry_at, entries_of, is_jar, bundle_of, BundleVerdict, IsContent, IsBroken}
 
 in_entry_ok : (k : ℕ) (r : Result (Option View) ClassFault) (v : Option View) → in_entry k r ≡ Ok v → r ≡ Ok v
 in_entry_ok k (Ok w) v e = let same : w ≡ v = ok_is w v e in ap (λ (x : Option View). Ok x) same

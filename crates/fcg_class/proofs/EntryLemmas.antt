@@ -16,11 +16,11 @@ use Rattle.fcg_grammar.specs.Reading.{Fails}
 use Rattle.fcg_grammar.specs.Rows.{rows}
 use Rattle.fcg_grammar.proofs.RowLemmas.{with_front, rows_go_on}
 use Rattle.fcg_views.specs.declared.view.View.{View}
-use Rattle.fcg_views.specs.Valid.{left_of}
+use Rattle.fcg_views.specs.Valid.{left_of, is_same}
 use Rattle.fcg_class.specs.declared.bundle.Ahead.{Ahead}
 use Rattle.fcg_class.specs.declared.bundle.BundleFault.{BundleFault}
 use Rattle.fcg_class.specs.declared.bundle.BundleRule.TheVariants.{Path, ManySites}
-use Rattle.fcg_class.specs.Bundle.{broken, shown, sites_in, some_of, Begun, is_same, path_at, body_at, entry_at}
+use Rattle.fcg_class.specs.Bundle.{broken, shown, sites_in, some_of, Begun, path_at, body_at, entry_at}
 use Rattle.fcg_class.specs.Entries.{path_cmp, ArePaths, begun, start, GivesEntry}
 
 negated : (a b c : Bool) → a ≡ b → c ≡ not a → not c ≡ b

@@ -9,14 +9,15 @@ use Rattle.fcg_grammar.specs.Reading.{◌>>=◌, unless_broken, Gives}
 use Rattle.fcg_grammar.specs.Rows.{rows}
 use Rattle.fcg_grammar.proofs.LawLemmas.{whole, err_is, ok_or_err}
 use Rattle.fcg_views.specs.declared.view.View.{View}
-use Rattle.fcg_views.specs.declared.fault.ClassFault.{ClassFault}
-use Rattle.fcg_views.specs.Breaks.Class.{class_of}
+use Rattle.fcg_classfile.specs.declared.fault.ClassFault.{ClassFault}
+use Rattle.fcg_classfile.specs.Breaks.Class.{class_of}
 use Rattle.fcg_class.specs.declared.bundle.BundleFault.{BundleFault}
 use Rattle.fcg_class.specs.declared.bundle.BundleFault.TheVariants.{Jar}
 use Rattle.fcg_class.specs.declared.bundle.BundleRule.{BundleRule}
 use Rattle.fcg_class.specs.declared.bundle.BundleRule.TheVariants.{Magic, Version, Cut, Path, Trailing, ManySites}
 use Rattle.fcg_class.specs.Path.{is_path_length, is_path, is_class_path}
-use Rattle.fcg_class.specs.Bundle.{broken, sites_in, Begun, is_same, in_entry, held, path_at, body_at, entry_at, entries_of}
+use Rattle.fcg_class.specs.Bundle.{broken, sites_in, Begun, in_entry, held, path_at, body_at, entry_at, entries_of}
+use Rattle.fcg_views.specs.Valid.{is_same}
 
 -- a fault that isn't that of a jar
 abbrev IsOther : BundleFault → Type 0

@@ -1,12 +1,3 @@
-pub mod FirstLemmas
-pub mod NameLemmas
-pub mod AttributeLemmas
-pub mod CodeLemmas
-pub mod MethodLemmas
-pub mod ClassLemmas
-pub mod OverLemmas
-pub mod SiteLemmas
-pub mod HandleLemmas
 pub mod PathLemmas
 pub mod EntryLemmas
 pub mod JarLemmas

@@ -14,15 +14,16 @@ use Rattle.fcg_grammar.specs.Spell.{IsBytes, u2, u4}
 use Rattle.fcg_grammar.proofs.Standing.{Stands, Stands-back, u2_only, u4_only, part_only, is_whole}
 use Rattle.fcg_bytes.specs.Files.{File}
 use Rattle.fcg_views.specs.declared.view.View.{View}
-use Rattle.fcg_views.specs.declared.fault.ClassFault.{ClassFault}
-use Rattle.fcg_views.specs.Breaks.Class.{class_of}
-use Rattle.fcg_laws.proofs.Fresh.{AreFresh, distinct_only}
-use Rattle.fcg_laws.proofs.WordLaws.{same_text}
+use Rattle.fcg_classfile.specs.declared.fault.ClassFault.{ClassFault}
+use Rattle.fcg_classfile.specs.Breaks.Class.{class_of}
+use Rattle.fcg_classfile.proofs.Fresh.{AreFresh, distinct_only}
+use Rattle.fcg_classfile.proofs.WordLaws.{same_text}
 use Rattle.fcg_class.specs.declared.bundle.BundleFault.{BundleFault}
 use Rattle.fcg_class.specs.declared.bundle.BundleFault.TheVariants.{Class}
 use Rattle.fcg_class.specs.declared.bundle.BundleRule.TheVariants.{Cut, Trailing, ManySites}
 use Rattle.fcg_class.specs.Path.{is_path, is_class_path}
-use Rattle.fcg_class.specs.Bundle.{Entry, entry, bundle, shown, sites_in, broken, is_same, in_entry, held, Begun, body_at, entry_at, entries_of, bundle_of}
+use Rattle.fcg_class.specs.Bundle.{Entry, entry, bundle, shown, sites_in, broken, in_entry, held, Begun, body_at, entry_at, entries_of, bundle_of}
+use Rattle.fcg_views.specs.Valid.{is_same}
 use Rattle.fcg_class.specs.Pack.{ArePacked, IsOfContent, bundle_limit}
 use Rattle.fcg_class.specs.Packing.{entry_size}
 use Rattle.fcg_class.proofs.BundleLaws.{entry_length, path_only, reopened}

@@ -1,16 +1,15 @@
 -- Bundles: what they are, and how they are read.
 use Rattle.std.specs.Prelude.{◌≡◌, ◌≢◌, ℕ, ◌+◌, ◌-◌, ◌<◌, ◌≤◌, ◌^◌, List, [], ◌∷◌, ◌++◌, length, map, min, sum_by, Bool, true, false, not, nat_eq, nat_le, Option, Some, None, Result, Ok, Err, ◌==◌, if◌then◌else◌}
 use Rattle.std.specs.List.{concat, flat_map, list_any, starts_with, AllPairs, AllZip}
-use Rattle.std.specs.Cmp.Lexicographic.{pointwise}
 use Rattle.fcg_grammar.specs.Spell.{u2, u4}
 use Rattle.fcg_grammar.specs.Number as number
 use Rattle.fcg_grammar.specs.Reading.{◌>>=◌, unless_broken}
 use Rattle.fcg_grammar.specs.Rows.{rows}
 use Rattle.fcg_views.specs.declared.view.View.{View}
-use Rattle.fcg_views.specs.declared.fault.ClassFault.{ClassFault}
-use Rattle.fcg_views.specs.Reads.{Reads}
-use Rattle.fcg_views.specs.Valid.{site_count}
-use Rattle.fcg_views.specs.Breaks.Class.{class_of}
+use Rattle.fcg_classfile.specs.declared.fault.ClassFault.{ClassFault}
+use Rattle.fcg_classfile.specs.Reads.{Reads}
+use Rattle.fcg_views.specs.Valid.{site_count, is_same}
+use Rattle.fcg_classfile.specs.Breaks.Class.{class_of}
 use Rattle.fcg_class.specs.declared.bundle.BundleFault.{BundleFault}
 use Rattle.fcg_class.specs.declared.bundle.BundleFault.TheVariants.{Jar, Bundle, Class}
 use Rattle.fcg_class.specs.declared.bundle.BundleRule.{BundleRule}
@@ -111,9 +110,6 @@ body_at bytes k path at = do
   body ← part_at bytes k (at + 4) n
   read ← held k (is_class_path path) body
   Ok (read, at + 4 + n)
-
-abbrev pub is_same : List ℕ → List ℕ → Bool
-is_same p q = pointwise nat_eq p q
 
 -- where the next entry stands, the paths of those before it, and how many sites the views may still have
 pub record Begun : Type 0 where

@@ -11,11 +11,12 @@ use Rattle.fcg_grammar.specs.declared.error.ReadError.{ReadError}
 use Rattle.fcg_grammar.specs.declared.error.ReadError.TheVariants as errors
 use Rattle.fcg_grammar.specs.Reading.{Fails}
 use Rattle.fcg_views.specs.declared.view.View.{View}
-use Rattle.fcg_views.specs.declared.fault.ClassFault.{ClassFault}
+use Rattle.fcg_classfile.specs.declared.fault.ClassFault.{ClassFault}
 use Rattle.fcg_class.specs.declared.bundle.Ahead.{Ahead}
 use Rattle.fcg_class.specs.declared.bundle.BundleFault.{BundleFault}
 use Rattle.fcg_class.specs.declared.bundle.BundleFault.TheVariants.{Class}
-use Rattle.fcg_class.specs.Bundle.{some_of, Begun, is_same}
+use Rattle.fcg_class.specs.Bundle.{some_of, Begun}
+use Rattle.fcg_views.specs.Valid.{is_same}
 
 abbrev pub path_cmp : Bor (List ℕ) → Bor (List ℕ) → Ordering
 path_cmp x y = slice_cmp nat_cmp x.now y.now

@@ -1,14 +1,5 @@
-pub mod Firsts
-pub mod Names
-pub mod Attributes
-pub mod Calls
-pub mod Methods
-pub mod Members
-pub mod Class
-pub mod Sites
 pub mod Path
 pub mod Bundle
 pub mod Entries
-pub mod Handles
 pub mod Pack
 pub mod Packing

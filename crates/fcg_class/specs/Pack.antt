@@ -4,7 +4,8 @@ use Rattle.std.specs.List.{filter, position, list_all, AllZip}
 use Rattle.std.specs.Option.{unwrap_or}
 use Rattle.std.specs.Io.KnownBytes.{Appends, Keeps}
 use Rattle.fcg_grammar.specs.Table.{table, Rises}
-use Rattle.fcg_bytes.specs.Files.{File, file_at, is_same, list_answer, path_in}
+use Rattle.fcg_bytes.specs.Files.{File, file_at, list_answer, path_in}
+use Rattle.fcg_views.specs.Valid.{is_same}
 use Rattle.fcg_bytes.specs.declared.files.FilesRefusal.{FilesRefusal}
 use Rattle.fcg_bytes.specs.declared.files.FilesRefusal.TheVariants as files
 use Rattle.fcg_class.specs.declared.packing.PackRefusal.{PackRefusal}

@@ -8,10 +8,11 @@ ghost use Rattle.fcg_class.specs.Entries.{told, begun, start, ArePaths, GivesEnt
 ghost use Rattle.fcg_class.specs.Bundle.{Content, broken, some_of, shown, sites_in, held, path_at, body_at, entry_at, entries_of, bundle_of, is_jar};
 ghost use Rattle.fcg_class.specs.Path.{is_class_path};
 
-use crate::class::read_class;
 use crate::path::{is_class_path, is_path, is_path_length, is_versioned};
+use fcg_classfile::ClassFault;
 use fcg_grammar::{ReadError, read_part, read_u2, read_u4};
-use fcg_views::{ClassFault, View, Views, sites_left};
+use fcg_reader::read_class;
+use fcg_views::{View, Views, sites_left};
 use std::alloc::{AllocError, Global};
 use std::collections::BTreeSet;
 

@@ -3,17 +3,17 @@ use Rattle.std.proofs.Common.{◌≡◌, ◌⊎◌, inl, inr, ℕ, zero, suc, �
 use Rattle.std.specs.Prelude.{Some, nat_le, ◌==◌, if◌then◌else◌}
 use Rattle.std.specs.List.{flat_map, AllByRecursion}
 use Rattle.fcg_grammar.specs.Spell.{u2}
-use Rattle.fcg_views.specs.declared.code.DynamicCall.{DynamicCall}
+use Rattle.fcg_classfile.specs.declared.code.DynamicCall.{DynamicCall}
 use Rattle.fcg_views.specs.declared.view.Ref.{Ref}
 use Rattle.fcg_views.specs.declared.view.Site.{Site}
 use Rattle.fcg_views.specs.declared.view.SiteKind.{SiteKind}
 use Rattle.fcg_views.specs.declared.view.SiteKind.TheVariants as kinds
-use Rattle.fcg_views.specs.ClassFile.{is_one_of}
+use Rattle.fcg_classfile.specs.ClassFile.{is_one_of}
 use Rattle.fcg_views.specs.Descriptor.{IsDescriptor, IsFieldDescriptor}
 use Rattle.fcg_views.specs.DescSteps.{is_descriptor, is_field_descriptor}
 use Rattle.fcg_views.proofs.DescLaws.{descriptor_found, field_descriptor_found}
-use Rattle.fcg_views.specs.Instructions.{Fixed, form_of, Instruction, FitFrom}
-use Rattle.fcg_views.specs.Sites.{ToMethod, ToField, ToType, SiteForm, site_form, is_dynamic, IsMember, IsType, IsTarget, IsSite, HasIndex, AreFormed, IsCall, AreDynamic, Found, nothing, both, AreOf, AreFound}
+use Rattle.fcg_classfile.specs.Instructions.{Fixed, form_of, Instruction, FitFrom}
+use Rattle.fcg_classfile.specs.Sites.{ToMethod, ToField, ToType, SiteForm, site_form, is_dynamic, IsMember, IsType, IsTarget, IsSite, HasIndex, AreFormed, IsCall, AreDynamic, Found, nothing, both, AreOf, AreFound}
 use Rattle.fcg_make.specs.declared.entry.Entry.{Entry}
 use Rattle.fcg_make.specs.declared.entry.Entry.TheVariants.{Text, Class, Member, Dynamic}
 use Rattle.fcg_make.specs.Entries.{index_of}

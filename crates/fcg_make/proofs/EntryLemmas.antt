@@ -7,8 +7,8 @@ use Rattle.std.specs.declared.cmp.Ordering.TheVariants.{Less, Equal, Greater}
 use Rattle.std.specs.Cmp.{unsigned_ties}
 use Rattle.std.specs.Cmp.Lexicographic.{slice_cmp, texts_ties}
 use Rattle.std.proofs.lemmas.Bool.Decides.{Decides-eqb}
-use Rattle.fcg_views.specs.Breaks.Words.{is_same}
-use Rattle.fcg_laws.proofs.WordLaws.{same_name, is_itself}
+use Rattle.fcg_views.specs.Valid.{is_same}
+use Rattle.fcg_classfile.proofs.WordLaws.{same_name, is_itself}
 use Rattle.fcg_make.specs.declared.entry.Entry.{Entry}
 use Rattle.fcg_make.specs.declared.entry.Entry.TheVariants.{Text, Class, Member, Reference, Handle, Dynamic}
 use Rattle.fcg_make.specs.contracts.entry.EntryOrd.TheImpl.{ghosts}

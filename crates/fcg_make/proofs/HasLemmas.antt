@@ -4,8 +4,8 @@ use Rattle.std.specs.Prelude.{Option, Some, None, option_map, is_some}
 use Rattle.std.specs.List.{slice_get, AllByRecursion}
 use Rattle.std.proofs.lemmas.Bool.Decides.{Decides-eqb}
 use Rattle.std.proofs.lemmas.Option.{slice_get-map}
-use Rattle.fcg_views.specs.ClassFile.{is_one_of, Constant, is_wide, slots}
-use Rattle.fcg_views.specs.Constants.{constant_at}
+use Rattle.fcg_classfile.specs.ClassFile.{is_one_of, Constant, is_wide, slots}
+use Rattle.fcg_classfile.specs.Constants.{constant_at}
 use Rattle.fcg_make.specs.declared.entry.Entry.{Entry}
 use Rattle.fcg_make.specs.declared.entry.Entry.TheVariants.{Text, Class, Member, Reference, Handle, Dynamic}
 use Rattle.fcg_make.specs.Entries.{is_entry, place_in, added, added_all, index_of}

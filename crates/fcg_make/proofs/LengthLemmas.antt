@@ -13,8 +13,8 @@ use Rattle.fcg_views.specs.declared.view.Method.{Method}
 use Rattle.fcg_views.specs.declared.view.Site.{Site}
 use Rattle.fcg_views.specs.declared.view.SiteKind.{SiteKind}
 use Rattle.fcg_views.specs.declared.view.SiteKind.TheVariants.{Virtual, Interface, Special, Static, New, StaticField, Handle}
-use Rattle.fcg_views.specs.ClassFile.{bootstrap_method, bootstrap_info}
-use Rattle.fcg_views.specs.Instructions.{instruction}
+use Rattle.fcg_classfile.specs.ClassFile.{bootstrap_method, bootstrap_info}
+use Rattle.fcg_classfile.specs.Instructions.{instruction}
 use Rattle.fcg_views.specs.Valid.{IsValid, site_count}
 use Rattle.fcg_make.specs.declared.entry.Entry.{Entry}
 use Rattle.fcg_make.specs.Entries.{index_of}

@@ -5,9 +5,9 @@ use Rattle.std.specs.List.{flat_map, list_all, AllByRecursion}
 use Rattle.fcg_views.specs.declared.view.Field.{Field}
 use Rattle.fcg_views.specs.declared.view.Method.{Method}
 use Rattle.fcg_views.specs.declared.view.Site.{Site}
-use Rattle.fcg_views.specs.ClassFile.{code_info}
-use Rattle.fcg_views.specs.Instructions.{instruction}
-use Rattle.fcg_views.specs.Reads.{HasCode, IsCodeOf, IsFieldOf, IsMethodOf}
+use Rattle.fcg_classfile.specs.ClassFile.{code_info}
+use Rattle.fcg_classfile.specs.Instructions.{instruction}
+use Rattle.fcg_classfile.specs.Reads.{HasCode, IsCodeOf, IsFieldOf, IsMethodOf}
 use Rattle.fcg_views.specs.DescSteps.{is_descriptor}
 use Rattle.fcg_views.proofs.DescLaws.{descriptor_found, field_descriptor_found}
 use Rattle.fcg_make.specs.declared.entry.Entry.{Entry}

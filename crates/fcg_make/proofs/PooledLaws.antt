@@ -4,11 +4,11 @@ use Rattle.std.specs.Prelude.{Option, Some, None, is_none}
 use Rattle.std.specs.List.{AllByRecursion}
 use Rattle.fcg_views.specs.declared.view.View.{View}
 use Rattle.fcg_views.specs.declared.view.Ref.{Ref}
-use Rattle.fcg_views.specs.Breaks.Groups.{bad_group}
-use Rattle.fcg_views.specs.ClassFile.{Two, shape_of, is_one_of, Pair, tag_of, handle_tags, pair_wants, wants}
-use Rattle.fcg_views.specs.Constants.{constant_at, NamesClass, NamesReference}
-use Rattle.fcg_views.specs.Reads.{Fits, HasTag, IsPool}
-use Rattle.fcg_laws.proofs.GroupLaws.{groups_found}
+use Rattle.fcg_classfile.specs.Breaks.Groups.{bad_group}
+use Rattle.fcg_classfile.specs.ClassFile.{Two, shape_of, is_one_of, Pair, tag_of, handle_tags, pair_wants, wants}
+use Rattle.fcg_classfile.specs.Constants.{constant_at, NamesClass, NamesReference}
+use Rattle.fcg_classfile.specs.Reads.{Fits, HasTag, IsPool}
+use Rattle.fcg_classfile.proofs.GroupLaws.{groups_found}
 use Rattle.fcg_make.specs.declared.entry.Entry.{Entry}
 use Rattle.fcg_make.specs.declared.entry.Entry.TheVariants.{Text, Class, Member, Reference, Handle, Dynamic}
 use Rattle.fcg_make.specs.Entries.{index_of}

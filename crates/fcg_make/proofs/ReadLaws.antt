@@ -7,10 +7,10 @@ use Rattle.fcg_views.specs.declared.view.View.{View}
 use Rattle.fcg_views.specs.declared.view.Field.{Field}
 use Rattle.fcg_views.specs.declared.view.Method.{Method}
 use Rattle.fcg_views.specs.declared.view.Site.{Site}
-use Rattle.fcg_views.specs.ClassFile.{bootstrap_info, spelling}
+use Rattle.fcg_classfile.specs.ClassFile.{bootstrap_info, spelling}
 use Rattle.fcg_views.specs.Valid.{IsValid}
-use Rattle.fcg_views.specs.Reads.{NamesType, NamesSuper, HasRows, IsRow, IsFieldOf, IsMethodOf, IsViewOf, Reads}
-use Rattle.fcg_laws.proofs.WordLaws.{methods_differ}
+use Rattle.fcg_classfile.specs.Reads.{NamesType, NamesSuper, HasRows, IsRow, IsFieldOf, IsMethodOf, IsViewOf, Reads}
+use Rattle.fcg_classfile.proofs.WordLaws.{methods_differ}
 use Rattle.fcg_make.specs.declared.entry.Entry.{Entry}
 use Rattle.fcg_make.specs.declared.entry.Entry.TheVariants.{Text, Class}
 use Rattle.fcg_make.specs.declared.refusal.NotWritable.{NotWritable}

@@ -12,8 +12,8 @@ use Rattle.fcg_views.specs.declared.view.SiteKind.{SiteKind}
 use Rattle.fcg_views.specs.declared.view.SiteKind.TheVariants as kinds
 use Rattle.fcg_views.specs.declared.view.HandleKind.{HandleKind}
 use Rattle.fcg_views.specs.declared.view.HandleKind.TheVariants.{K5, K6, K7, K8, K9}
-use Rattle.fcg_views.specs.ClassFile.{is_one_of, handle_tags}
-use Rattle.fcg_views.specs.Breaks.Groups.{bad_group}
+use Rattle.fcg_classfile.specs.ClassFile.{is_one_of, handle_tags}
+use Rattle.fcg_classfile.specs.Breaks.Groups.{bad_group}
 use Rattle.fcg_views.specs.Valid.{IsShort, IsShortOrNone, HasShortNames, IsValidField, IsValidMethod, IsValid}
 use Rattle.fcg_make.specs.declared.entry.Entry.{Entry}
 use Rattle.fcg_make.specs.declared.entry.Entry.TheVariants.{Text, Class, Member, Reference, Handle, Dynamic}

@@ -6,7 +6,7 @@ use Rattle.std.proofs.lemmas.List.{append-nil}
 use Rattle.std.proofs.lemmas.List.Folds.{flat_map-map}
 use Rattle.fcg_grammar.specs.Spell.{u2, u4}
 use Rattle.fcg_views.specs.declared.view.View.{View}
-use Rattle.fcg_views.specs.ClassFile.{Constant, constant, slots, attribute, member_info, spelling}
+use Rattle.fcg_classfile.specs.ClassFile.{Constant, constant, slots, attribute, member_info, spelling}
 use Rattle.fcg_make.specs.declared.entry.Entry.{Entry}
 use Rattle.fcg_make.specs.Steps.{method_rows}
 use Rattle.fcg_make.specs.Needs.{rows_of, numbered_methods}

@@ -9,8 +9,8 @@ use Rattle.std.proofs.lemmas.Grind.{flat_map-append}
 use Rattle.fcg_views.specs.declared.view.Site.{Site}
 use Rattle.fcg_grammar.specs.Spell.{u2, u4}
 use Rattle.fcg_views.specs.declared.view.Method.{Method}
-use Rattle.fcg_views.specs.ClassFile.{attribute, code_info, bootstrap_method, bootstrap_info, member_info}
-use Rattle.fcg_views.specs.Instructions.{instruction}
+use Rattle.fcg_classfile.specs.ClassFile.{attribute, code_info, bootstrap_method, bootstrap_info, member_info}
+use Rattle.fcg_classfile.specs.Instructions.{instruction}
 use Rattle.fcg_make.specs.declared.entry.Entry.{Entry}
 use Rattle.fcg_make.specs.Steps.{Step, is_handle, is_call, calls, steps_of, row_count, method_rows, size_of, numbered}
 use Rattle.fcg_make.specs.Layout.{nop, instruction_of, instructions_from, code_bytes, text_index, code_attributes, method_of, handle_index, row_of, class_attributes}

@@ -6,7 +6,7 @@ use Rattle.std.proofs.lemmas.Bool.Decides.{nat_tests}
 use Rattle.std.proofs.lemmas.List.Elements.{All-from_recursion}
 use Rattle.fcg_views.specs.declared.view.View.{View}
 use Rattle.fcg_views.specs.Valid.{IsValid}
-use Rattle.fcg_views.specs.ClassFile.{is_one_of}
+use Rattle.fcg_classfile.specs.ClassFile.{is_one_of}
 use Rattle.fcg_make.specs.declared.entry.Entry.{Entry}
 use Rattle.fcg_make.specs.declared.entry.Entry.TheVariants.{Text, Class, Member, Reference, Handle, Dynamic}
 use Rattle.fcg_make.specs.declared.refusal.NotWritable.TheVariants as refusals

@@ -1,6 +1,6 @@
 -- The entries of a constant pool by what they say (JVMS 4.4).
 use Rattle.std.specs.Prelude.{ℕ, suc, ◌+◌, List, [], ◌∷◌, ◌++◌, Bool, false, ◌&&◌, ◌==◌, if◌then◌else◌, Option, Some, None, option_map, is_some}
-use Rattle.fcg_views.specs.Breaks.Words.{is_same}
+use Rattle.fcg_views.specs.Valid.{is_same}
 use Rattle.fcg_make.specs.declared.entry.Entry.{Entry}
 use Rattle.fcg_make.specs.declared.entry.Entry.TheVariants.{Text, Class, Member, Reference, Handle, Dynamic}
 

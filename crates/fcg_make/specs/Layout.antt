@@ -9,9 +9,9 @@ use Rattle.fcg_views.specs.declared.view.Site.{Site}
 use Rattle.fcg_views.specs.declared.view.Ref.{Ref}
 use Rattle.fcg_views.specs.declared.view.SiteKind.{SiteKind}
 use Rattle.fcg_views.specs.declared.view.SiteKind.TheVariants as kinds
-use Rattle.fcg_views.specs.ClassFile as file
-use Rattle.fcg_views.specs.ClassFile.{Constant, Utf8, Named, Pair, Attribute, Code, code_info, BootstrapMethod, bootstrap_info, MemberInfo, ClassFile, spelling}
-use Rattle.fcg_views.specs.Instructions.{Instruction, Plain, instruction}
+use Rattle.fcg_classfile.specs.ClassFile as file
+use Rattle.fcg_classfile.specs.ClassFile.{Constant, Utf8, Named, Pair, Attribute, Code, code_info, BootstrapMethod, bootstrap_info, MemberInfo, ClassFile, spelling}
+use Rattle.fcg_classfile.specs.Instructions.{Instruction, Plain, instruction}
 use Rattle.fcg_make.specs.declared.entry.Entry.{Entry}
 use Rattle.fcg_make.specs.declared.entry.Entry.TheVariants.{Text, Class, Member, Reference, Handle, Dynamic}
 use Rattle.fcg_make.specs.declared.refusal.NotWritable.{NotWritable}

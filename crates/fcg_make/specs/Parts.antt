@@ -4,7 +4,7 @@ use Rattle.std.specs.List.{flat_map}
 use Rattle.fcg_grammar.specs.Spell.{u2, u4}
 use Rattle.fcg_views.specs.declared.view.View.{View}
 use Rattle.fcg_views.specs.declared.view.Method.{Method}
-use Rattle.fcg_views.specs.ClassFile.{constant, Code, member_info}
+use Rattle.fcg_classfile.specs.ClassFile.{constant, Code, member_info}
 use Rattle.fcg_make.specs.declared.entry.Entry.{Entry}
 use Rattle.fcg_make.specs.Steps.{Step, steps_of, row_count, numbered}
 use Rattle.fcg_make.specs.Needs.{rows_of, numbered_methods}

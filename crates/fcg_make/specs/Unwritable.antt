@@ -10,7 +10,7 @@ use Rattle.fcg_views.specs.declared.view.SiteKind.TheVariants.{Virtual, Interfac
 use Rattle.fcg_views.specs.declared.view.HandleKind.{HandleKind}
 use Rattle.fcg_views.specs.declared.view.HandleKind.TheVariants.{K5, K6, K7, K8, K9}
 use Rattle.fcg_views.specs.DescSteps.{is_descriptor, is_field_descriptor}
-use Rattle.fcg_views.specs.Breaks.Groups.{bad_group}
+use Rattle.fcg_classfile.specs.Breaks.Groups.{bad_group}
 use Rattle.fcg_make.specs.declared.refusal.NotWritable.{NotWritable}
 use Rattle.fcg_make.specs.declared.refusal.NotWritable.TheVariants as refusals
 use Rattle.fcg_make.specs.Steps.{Step, steps_of, size_of}

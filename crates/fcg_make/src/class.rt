@@ -1,7 +1,7 @@
 //! Class files that are written.
 ghost use Rattle.std.specs.Prelude.{◌≡◌, ◌≤◌, ◌<◌, ◌^◌, ◌++◌, length, true, Some, All, IfOk, OnOk};
 ghost use Rattle.std.specs.List.{list_all};
-ghost use Rattle.fcg_views.specs.Reads.{Reads};
+ghost use Rattle.fcg_classfile.specs.Reads.{Reads};
 ghost use Rattle.fcg_views.specs.Valid.{IsValid};
 ghost use Rattle.fcg_make.specs.Needs.{rows_of, pool_of};
 ghost use Rattle.fcg_make.specs.Unwritable.{is_named, is_typed, is_kind, is_placed, is_placed_method};

@@ -1,7 +1,7 @@
 //! Class files that are written from views, such as tests and measurements read. `write_class` checks a view
 //! (`check`), collects the entries of its pool (`needs`, `table`), and writes the file part by part (`write`, `member`,
-//! `class`). The crate stands on the words of formats, on the views with the definitions of class files, on the laws of
-//! these, and on the reader of pools for what is modified UTF-8.
+//! `class`). The crate stands on the words of formats, on the views, on what a class file is with the laws of it, and on
+//! the reader of pools for what is modified UTF-8.
 #![tactic(auto)]
 
 mod check;
@@ -12,8 +12,6 @@ mod needs;
 mod refusal;
 mod step;
 mod table;
-#[cfg(test)]
-mod tests;
 mod words;
 mod write;
 

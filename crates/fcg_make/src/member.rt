@@ -1,7 +1,7 @@
 //! The fields, methods and attributes of a class file that is written, each at the end of the bytes so far.
 ghost use Rattle.std.specs.Prelude.{◌≡◌, ◌≤◌, ◌<◌, ◌+◌, ◌^◌, ◌++◌, length, true, All, IfOk, OnOk};
 ghost use Rattle.std.specs.List.{flat_map, list_all, AllByRecursion};
-ghost use Rattle.fcg_views.specs.ClassFile.{member_info};
+ghost use Rattle.fcg_classfile.specs.ClassFile.{member_info};
 ghost use Rattle.fcg_make.specs.Steps.{calls, steps_of, method_rows, numbered};
 ghost use Rattle.fcg_make.specs.Needs.{rows_of};
 ghost use Rattle.fcg_make.specs.Unwritable.{is_placed_from, is_placed_method};

@@ -2,8 +2,8 @@
 ghost use Rattle.std.specs.Prelude.{◌≡◌, ◌≤◌, ◌<◌, ◌+◌, ◌-◌, ◌^◌, ◌++◌, ◌∷◌, length, replicate, All, IfOk, OnOk};
 ghost use Rattle.std.specs.List.{flat_map};
 ghost use Rattle.fcg_grammar.specs.Spell.{u2, u4};
-ghost use Rattle.fcg_views.specs.ClassFile.{constant};
-ghost use Rattle.fcg_views.specs.Instructions.{instruction};
+ghost use Rattle.fcg_classfile.specs.ClassFile.{constant};
+ghost use Rattle.fcg_classfile.specs.Instructions.{instruction};
 ghost use Rattle.fcg_make.specs.declared.entry.Entry.TheVariants as entries;
 ghost use Rattle.fcg_make.specs.Entries.{index_of};
 ghost use Rattle.fcg_make.specs.Steps.{calls, steps_of, row_count, numbered};

@@ -12,9 +12,8 @@ use Rattle.fcg_views.specs.declared.view.View.{View}
 use Rattle.fcg_views.specs.declared.view.Method.{Method}
 use Rattle.fcg_views.specs.declared.view.Site.{Site}
 use Rattle.fcg_views.specs.declared.view.Ref.{Ref}
-use Rattle.fcg_views.specs.Breaks.Words.{is_alike}
 use Rattle.fcg_views.specs.Valid as valid
-use Rattle.fcg_views.specs.Valid.{IsShort, IsShortOrNone, HasShortNames, IsValidField, IsValidMethod, IsValid, name_count}
+use Rattle.fcg_views.specs.Valid.{IsShort, IsShortOrNone, HasShortNames, IsValidField, IsValidMethod, IsValid, name_count, is_alike}
 use Rattle.fcg_grammar.specs.Table.{table, place}
 use Rattle.fcg_partial.specs.Graph.{Graph, StoredSite, FitsName, FitsRef, FitsType, IsUsed, IsGraph, key, site_count, ref_uses, super_uses, field_uses, method_uses, type_uses, name_uses, method_targets, type_targets, ref_uses_of}
 use Rattle.fcg_partial.specs.Views.{names_of_ref, names_of_super, names_of_field, names_of_method, names_of_view, targets_of_method, targets_of_view, targets_of, mentions, names_of, refs_of, ref_row, super_number_of, site_row, field_row, method_row, type_row, graph_by, graph_of}

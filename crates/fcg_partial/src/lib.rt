@@ -17,8 +17,6 @@ mod refs;
 mod row;
 mod rows;
 mod shown;
-#[cfg(test)]
-mod tests;
 mod types;
 mod write;
 

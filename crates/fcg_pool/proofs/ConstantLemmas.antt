@@ -7,10 +7,10 @@ use Rattle.fcg_grammar.specs.Number as number
 use Rattle.fcg_grammar.specs.Number.{u1_at, u2_at, part_at}
 use Rattle.fcg_grammar.proofs.LawLemmas.{bind_ok}
 use Rattle.fcg_grammar.proofs.Standing.{guard_ok, ok_is}
-use Rattle.fcg_views.specs.ClassFile.{Shape, Text, Bytes, One, Two, Kinded, shape_of, Constant, is_wide, Utf8, Plain, Named, Pair, Handle}
-use Rattle.fcg_views.specs.Breaks.Groups.{is_single, bad_group}
-use Rattle.fcg_views.specs.Breaks.Pool as pool
-use Rattle.fcg_views.specs.Breaks.Pool.{grouped, shaped_at, constant_read, slot_at}
+use Rattle.fcg_classfile.specs.ClassFile.{Shape, Text, Bytes, One, Two, Kinded, shape_of, Constant, is_wide, Utf8, Plain, Named, Pair, Handle}
+use Rattle.fcg_classfile.specs.Breaks.Groups.{is_single, bad_group}
+use Rattle.fcg_classfile.specs.Breaks.Pool as pool
+use Rattle.fcg_classfile.specs.Breaks.Pool.{grouped, shaped_at, constant_read, slot_at}
 use Rattle.fcg_pool.specs.Standing.{shaped_in, constant_in, slot_in, ShapeLies, Lies}
 use Rattle.fcg_pool.specs.Seen.{start}
 use Rattle.fcg_pool.proofs.GroupLemmas.{single_none}

@@ -7,10 +7,10 @@ use Rattle.std.proofs.lemmas.List.{get_or-map}
 use Rattle.std.proofs.lemmas.List.FromFn.{get_or-map-range_with_len}
 use Rattle.std.proofs.lemmas.Bool.{le-ltb}
 use Rattle.std.proofs.lemmas.Bool.Decides.{nat_tests}
-use Rattle.fcg_views.specs.Instructions.{Form, form_of, Fixed}
-use Rattle.fcg_views.specs.Sites.{SiteForm, site_form, is_dynamic}
-use Rattle.fcg_views.specs.Breaks.Instructions.{passed, formed_at, next_at}
-use Rattle.fcg_views.proofs.InstructionPlaces.{next_at_is}
+use Rattle.fcg_classfile.specs.Instructions.{Form, form_of, Fixed}
+use Rattle.fcg_classfile.specs.Sites.{SiteForm, site_form, is_dynamic}
+use Rattle.fcg_classfile.specs.Breaks.Instructions.{passed, formed_at, next_at}
+use Rattle.fcg_classfile.proofs.InstructionPlaces.{next_at_is}
 use Rattle.fcg_pool.specs.Layout.{form_told}
 use Rattle.fcg_pool.specs.declared.instruction.TheConstants.{LAYOUTS}
 

@@ -5,8 +5,8 @@ use Rattle.std.proofs.lemmas.Bool.Decides.{nat_tests}
 use Rattle.std.proofs.lemmas.Option.{slice_get_read, slice_get-map}
 use Rattle.std.proofs.lemmas.List.{length-map}
 use Rattle.std.proofs.Math.ListN.{get_or-map}
-use Rattle.fcg_views.specs.declared.fault.PoolFault.{PoolFault}
-use Rattle.fcg_views.specs.Breaks.Pool.{Entries, in_slot, constant_of, slot_kept}
+use Rattle.fcg_classfile.specs.declared.fault.PoolFault.{PoolFault}
+use Rattle.fcg_classfile.specs.Breaks.Pool.{Entries, in_slot, constant_of, slot_kept}
 use Rattle.fcg_pool.specs.Standing.{slot_in}
 
 abbrev pub seen_as : List ℕ → List (Option ℕ) → Entries

@@ -3,10 +3,10 @@ use Rattle.std.proofs.Common.{◌≡◌, ℕ, List, [], ◌∷◌, ◌||◌, Boo
 use Rattle.std.specs.List.{list_any}
 use Rattle.std.specs.Prelude.{Result, Ok, Err}
 use Rattle.fcg_grammar.specs.Reading.{◌>>=◌, unless_broken, seen}
-use Rattle.fcg_views.specs.declared.fault.PoolRule.{PoolRule}
-use Rattle.fcg_views.specs.declared.fault.PoolRule.TheVariants.{WrongKind}
-use Rattle.fcg_views.specs.ClassFile.{Constant, is_one_of, tag_of}
-use Rattle.fcg_views.specs.Breaks.Pool.{Entries, constant_of, want_kept}
+use Rattle.fcg_classfile.specs.declared.fault.PoolRule.{PoolRule}
+use Rattle.fcg_classfile.specs.declared.fault.PoolRule.TheVariants.{WrongKind}
+use Rattle.fcg_classfile.specs.ClassFile.{Constant, is_one_of, tag_of}
+use Rattle.fcg_classfile.specs.Breaks.Pool.{Entries, constant_of, want_kept}
 
 pub any_is : (tags : List ℕ) (tag : ℕ) → list_any (λ t. eqb t tag) tags ≡ is_one_of tags tag
 any_is [] tag = refl

@@ -1,7 +1,7 @@
 -- The shapes and constants of the code, as those of the definition.
 use Rattle.std.specs.Prelude.{Option, Some, None}
-use Rattle.fcg_views.specs.ClassFile as file
-use Rattle.fcg_views.specs.ClassFile.{Constant}
+use Rattle.fcg_classfile.specs.ClassFile as file
+use Rattle.fcg_classfile.specs.ClassFile.{Constant}
 use Rattle.fcg_pool.specs.declared.constant.Shape.{Shape}
 use Rattle.fcg_pool.specs.declared.constant.Shape.TheVariants as shapes
 use Rattle.fcg_pool.specs.declared.constant.Entry.{Entry}

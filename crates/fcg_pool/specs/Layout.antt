@@ -1,6 +1,6 @@
 -- What the code says of the forms of instructions.
 use Rattle.std.specs.Prelude.{ℕ, nat_le, ◌==◌, Option, Some, None, if◌then◌else◌}
-use Rattle.fcg_views.specs.Instructions.{Form, Fixed, Table, Lookup, Wide}
+use Rattle.fcg_classfile.specs.Instructions.{Form, Fixed, Table, Lookup, Wide}
 use Rattle.fcg_pool.specs.declared.instruction.Layout.{Layout}
 use Rattle.fcg_pool.specs.declared.instruction.Layout.TheVariants as layouts
 

@@ -2,9 +2,9 @@
 use Rattle.std.specs.Prelude.{◌≡◌, ◌+◌, ◌≤◌, ℕ, List, length, false, Option, Some, None, Result, Ok}
 use Rattle.fcg_grammar.specs.Number.{part}
 use Rattle.fcg_grammar.specs.Reading.{◌>>=◌}
-use Rattle.fcg_views.specs.declared.fault.PoolRule.{PoolRule}
-use Rattle.fcg_views.specs.ClassFile.{Constant, Utf8, Plain, Named, Pair, Handle}
-use Rattle.fcg_views.specs.Breaks.Pool as pool
+use Rattle.fcg_classfile.specs.declared.fault.PoolRule.{PoolRule}
+use Rattle.fcg_classfile.specs.ClassFile.{Constant, Utf8, Plain, Named, Pair, Handle}
+use Rattle.fcg_classfile.specs.Breaks.Pool as pool
 use Rattle.fcg_pool.specs.declared.entries.Next.{Next}
 use Rattle.fcg_pool.specs.declared.pool.Indexes.{Indexes}
 use Rattle.fcg_pool.specs.declared.pool.RefSpan.{RefSpan}

@@ -1,8 +1,8 @@
 -- The constant that stands at a place, where one stands there whole.
 use Rattle.std.specs.Prelude.{ℕ, ◌+◌, ◌≤◌, ◌<◌, List, [], length, slice_index, All, Option, Some, None}
 use Rattle.fcg_grammar.specs.Number.{u2, part}
-use Rattle.fcg_views.specs.ClassFile.{Shape, Text, Bytes, One, Two, Kinded, shape_of, Constant, Utf8, Plain, Named, Pair, Handle}
-use Rattle.fcg_views.specs.Breaks.Pool.{Placed}
+use Rattle.fcg_classfile.specs.ClassFile.{Shape, Text, Bytes, One, Two, Kinded, shape_of, Constant, Utf8, Plain, Named, Pair, Handle}
+use Rattle.fcg_classfile.specs.Breaks.Pool.{Placed}
 
 -- by the shape of its tag; no constant stands at a tag outside the table
 unfoldable pub shaped_in : List ℕ → ℕ → ℕ → Option Shape → Constant

@@ -1,13 +1,13 @@
 //! What the indexes of a constant name.
 ghost use Rattle.std.specs.Prelude.{◌≡◌, ◌∷◌, []};
-ghost use Rattle.fcg_views.specs.ClassFile.{is_one_of, handle_tags, pair_wants, wants};
-ghost use Rattle.fcg_views.specs.Breaks.Pool.{want_kept, wants_kept, is_kind, has_room, constant_kept, at_tag, slot_kept};
+ghost use Rattle.fcg_classfile.specs.ClassFile.{is_one_of, handle_tags, pair_wants, wants};
+ghost use Rattle.fcg_classfile.specs.Breaks.Pool.{want_kept, wants_kept, is_kind, has_room, constant_kept, at_tag, slot_kept};
 ghost use Rattle.fcg_pool.specs.Entry.{constant_seen};
 ghost use Rattle.fcg_pool.specs.Standing.{slot_in, IsInside};
 
 use crate::constant::{Entry, find_constant};
 use crate::pool::Pool;
-use fcg_views::{PoolFault, PoolRule, pool_fault_at};
+use fcg_classfile::{PoolFault, PoolRule, pool_fault_at};
 
 /// Whether a tag is one of these.
 #[inline(always)]
@@ -18,7 +18,7 @@ pub fn is_one_of(tags: &[u8], tag: u8) -> bool
 }
 
 // An index names a constant of one of these tags.
-#[tactic(auto, unfolding(fcg_views::specs::Breaks::Pool::want_kept), using(crate::proofs::TagLemmas::want_tag))]
+#[tactic(auto, unfolding(fcg_classfile::specs::Breaks::Pool::want_kept), using(crate::proofs::TagLemmas::want_tag))]
 fn check_want(pool: &Pool<'_>, index: u16, tags: &[u8]) -> Result<(), PoolRule>
     ensures { result ≡ want_kept pool.now (index, tags.now) }
 {
@@ -99,7 +99,7 @@ fn has_room(pool: &Pool<'_>, index: u16, constant: Entry<'_>) -> bool
     !constant.is_wide() || usize::from(index) < pool.len()
 }
 
-#[tactic(auto, unfolding(fcg_views::specs::Breaks::Pool::constant_kept))]
+#[tactic(auto, unfolding(fcg_classfile::specs::Breaks::Pool::constant_kept))]
 fn check_constant(pool: &Pool<'_>, index: u16, constant: Entry<'_>) -> Result<(), PoolRule>
     ensures { result ≡ constant_kept pool.now index (constant_seen constant.entry) }
 {
@@ -123,7 +123,7 @@ fn at_tag(at: usize, index: u16, kept: Result<(), PoolRule>) -> Result<(), PoolF
 }
 
 /// The indexes of the constant at a place, whose own index is given.
-#[tactic(auto, unfolding(fcg_views::specs::Breaks::Pool::slot_kept))]
+#[tactic(auto, unfolding(fcg_classfile::specs::Breaks::Pool::slot_kept))]
 pub fn check_slot(pool: &Pool<'_>, index: u16, place: Option<usize>) -> Result<(), PoolFault>
     requires { IsInside pool.now.bytes place }
     ensures { result ≡ slot_kept pool.now index (slot_in pool.now.bytes place) }

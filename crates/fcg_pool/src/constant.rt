@@ -2,9 +2,9 @@
 ghost use Rattle.std.specs.Prelude.{◌≡◌, ◌≤◌, ◌<◌, ◌+◌, ℕ, List, length, slice_index, true, Some, IfOk};
 ghost use Rattle.fcg_grammar.specs.Reading.{seen};
 ghost use Rattle.fcg_grammar.specs.Number.{u2, part};
-ghost use Rattle.fcg_views.specs.ClassFile as file;
-ghost use Rattle.fcg_views.specs.ClassFile.{is_one_of, tag_of, is_wide};
-ghost use Rattle.fcg_views.specs.Breaks.Pool.{shaped_at, constant_read, text_in, name_in, pair_in};
+ghost use Rattle.fcg_classfile.specs.ClassFile as file;
+ghost use Rattle.fcg_classfile.specs.ClassFile.{is_one_of, tag_of, is_wide};
+ghost use Rattle.fcg_classfile.specs.Breaks.Pool.{shaped_at, constant_read, text_in, name_in, pair_in};
 ghost use Rattle.fcg_pool.specs.Entry.{shape_seen, constant_seen};
 ghost use Rattle.fcg_pool.specs.Seen.{indexes_of};
 ghost use Rattle.fcg_pool.specs.Standing.{shaped_in, constant_in, ShapeLies, Lies};
@@ -13,7 +13,7 @@ use crate::check::is_one_of;
 use crate::groups::find_bad_group;
 use crate::number::{read_part, read_u1, read_u2};
 use crate::pool::Indexes;
-use fcg_views::{PoolFault, PoolRule, pool_fault_at};
+use fcg_classfile::{PoolFault, PoolRule, pool_fault_at};
 
 /// What follows a tag: a length and a text, so many bytes, an index, two indexes, or a reference kind and an index.
 #[derive(Clone, Copy)]
@@ -78,7 +78,7 @@ fn shape_of(tag: u8) -> Option<Shape>
     }
 }
 
-#[tactic(auto, unfolding(fcg_views::specs::Breaks::Pool::shaped_at))]
+#[tactic(auto, unfolding(fcg_classfile::specs::Breaks::Pool::shaped_at))]
 fn read_text(bytes: &[u8], index: u16, at: usize) -> Result<(Entry<'_>, usize), PoolFault>
     requires { at < length bytes.now }
     ensures { seen (λ x. (constant_seen x.0, x.1)) result ≡ shaped_at bytes.now index at 1 (Some file.Text) }
@@ -91,7 +91,7 @@ fn read_text(bytes: &[u8], index: u16, at: usize) -> Result<(Entry<'_>, usize), 
     Ok((Entry::Utf8(text), at + 3 + len))
 }
 
-#[tactic(auto, unfolding(fcg_views::specs::Breaks::Pool::shaped_at))]
+#[tactic(auto, unfolding(fcg_classfile::specs::Breaks::Pool::shaped_at))]
 fn read_plain(
     bytes: &[u8],
     index: u16,
@@ -106,7 +106,7 @@ fn read_plain(
     Ok((Entry::Plain(tag, read), at + 1 + usize::from(n)))
 }
 
-#[tactic(auto, unfolding(fcg_views::specs::Breaks::Pool::shaped_at))]
+#[tactic(auto, unfolding(fcg_classfile::specs::Breaks::Pool::shaped_at))]
 fn read_named(bytes: &[u8], index: u16, at: usize, tag: u8) -> Result<(Entry<'_>, usize), PoolFault>
     requires { at < length bytes.now }
     ensures { seen (λ x. (constant_seen x.0, x.1)) result ≡ shaped_at bytes.now index at tag (Some file.One) }
@@ -115,7 +115,7 @@ fn read_named(bytes: &[u8], index: u16, at: usize, tag: u8) -> Result<(Entry<'_>
     Ok((Entry::Named(tag, i), at + 3))
 }
 
-#[tactic(auto, unfolding(fcg_views::specs::Breaks::Pool::shaped_at))]
+#[tactic(auto, unfolding(fcg_classfile::specs::Breaks::Pool::shaped_at))]
 fn read_pair(bytes: &[u8], index: u16, at: usize, tag: u8) -> Result<(Entry<'_>, usize), PoolFault>
     requires { at < length bytes.now }
     ensures { seen (λ x. (constant_seen x.0, x.1)) result ≡ shaped_at bytes.now index at tag (Some file.Two) }
@@ -125,7 +125,7 @@ fn read_pair(bytes: &[u8], index: u16, at: usize, tag: u8) -> Result<(Entry<'_>,
     Ok((Entry::Pair(tag, i, j), at + 5))
 }
 
-#[tactic(auto, unfolding(fcg_views::specs::Breaks::Pool::shaped_at))]
+#[tactic(auto, unfolding(fcg_classfile::specs::Breaks::Pool::shaped_at))]
 fn read_handle(bytes: &[u8], index: u16, at: usize) -> Result<(Entry<'_>, usize), PoolFault>
     requires { at < length bytes.now }
     ensures { seen (λ x. (constant_seen x.0, x.1)) result ≡ shaped_at bytes.now index at 15 (Some file.Kinded) }
@@ -135,7 +135,7 @@ fn read_handle(bytes: &[u8], index: u16, at: usize) -> Result<(Entry<'_>, usize)
     Ok((Entry::Handle(kind, i), at + 4))
 }
 
-#[tactic(auto, unfolding(fcg_views::specs::Breaks::Pool::shaped_at))]
+#[tactic(auto, unfolding(fcg_classfile::specs::Breaks::Pool::shaped_at))]
 fn read_shaped(
     bytes: &[u8],
     index: u16,
@@ -157,7 +157,7 @@ fn read_shaped(
 }
 
 /// The constant whose tag stands at a place, and the place after it.
-#[tactic(auto, unfolding(fcg_views::specs::Breaks::Pool::constant_read))]
+#[tactic(auto, unfolding(fcg_classfile::specs::Breaks::Pool::constant_read))]
 pub fn read_constant(bytes: &[u8], index: u16, at: usize) -> Result<(Entry<'_>, usize), PoolFault>
     requires { at ≤ length bytes.now }
     ensures { seen (λ x. (constant_seen x.0, x.1)) result ≡ constant_read bytes.now index at }

@@ -2,14 +2,14 @@
 ghost use Rattle.std.specs.Prelude.{◌≡◌, ℕ, ◌≤◌, ◌-◌, length, false, map, Some, Ok, IfOk, IfSome};
 ghost use Rattle.fcg_grammar.specs.Reading.{seen, Gives};
 ghost use Rattle.fcg_grammar.specs.Rows.{rows};
-ghost use Rattle.fcg_views.specs.Breaks.Pool.{slot_at};
+ghost use Rattle.fcg_classfile.specs.Breaks.Pool.{slot_at};
 ghost use Rattle.fcg_pool.specs.Standing.{slot_in, Lies, IsInside, IsPool};
 ghost use Rattle.fcg_pool.specs.Seen.{next_of, start};
 
 use crate::constant::{part_in, read_constant, u2_in};
 use crate::groups::are_single;
+use fcg_classfile::PoolFault;
 use fcg_grammar::ReadError;
-use fcg_views::PoolFault;
 use std::alloc::Global;
 
 /// Where the next constant stands, and whether the next index is the second of a Long or Double.
@@ -39,7 +39,7 @@ fn single_text_end(bytes: &[u8], at: usize) -> Option<usize>
 }
 
 // The place of the constant of an index, and what comes next.
-#[tactic(auto, unfolding(fcg_views::specs::Breaks::Pool::slot_at))]
+#[tactic(auto, unfolding(fcg_classfile::specs::Breaks::Pool::slot_at))]
 fn read_slot(bytes: &[u8], index: u16, next: Next) -> Result<(Option<usize>, Next), PoolFault>
     requires { next.at ≤ length bytes.now }
     ensures value { seen (λ x. (slot_in bytes.now x.0, next_of x.1)) result ≡ slot_at bytes.now index (next_of next) }

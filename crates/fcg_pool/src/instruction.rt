@@ -1,14 +1,14 @@
 //! One instruction at a time.
 ghost use Rattle.std.specs.Prelude.{◌≡◌, ◌+◌, ◌<◌, ◌≤◌, ◌^◌, length, slice_index, false, None, Ok, IfOk, IsOk};
 ghost use Rattle.fcg_grammar.specs.Reading.{seen};
-ghost use Rattle.fcg_views.specs.Instructions.{form_of, wide_of, moved_up, pad_of};
-ghost use Rattle.fcg_views.specs.Sites.{site_form, is_dynamic};
-ghost use Rattle.fcg_views.specs.Breaks.Instructions.{passed, table_at, lookup_at, wide_at, formed_at, next_at, operand_in, operand_at};
+ghost use Rattle.fcg_classfile.specs.Instructions.{form_of, wide_of, moved_up, pad_of};
+ghost use Rattle.fcg_classfile.specs.Sites.{site_form, is_dynamic};
+ghost use Rattle.fcg_classfile.specs.Breaks.Instructions.{passed, table_at, lookup_at, wide_at, formed_at, next_at, operand_in, operand_at};
 ghost use Rattle.fcg_pool.specs.Layout.{form_seen, form_told};
 ghost use Rattle.fcg_pool.specs.declared.instruction.TheConstants.{LAYOUTS};
 
+use fcg_classfile::CodeRule;
 use fcg_grammar::{read_part, read_u1, read_u4};
-use fcg_views::CodeRule;
 
 /// An instruction of a method's code.
 #[derive(Clone, Copy, Debug, PartialEq, Eq)]
@@ -95,7 +95,7 @@ fn move_up(number: u32) -> u32
 }
 
 // The place after so many bytes.
-#[tactic(auto, unfolding(fcg_views::specs::Breaks::Instructions::passed))]
+#[tactic(auto, unfolding(fcg_classfile::specs::Breaks::Instructions::passed))]
 fn pass(code: &[u8], at: usize, n: usize) -> Result<usize, CodeRule>
     requires { at ≤ length code.now }
     ensures value { result ≡ passed code.now at n }
@@ -115,7 +115,7 @@ fn pass_padding(code: &[u8], at: usize) -> Result<usize, CodeRule>
 }
 
 // The place after a tableswitch whose default stands at a place.
-#[tactic(auto, unfolding(fcg_views::specs::Breaks::Instructions::table_at))]
+#[tactic(auto, unfolding(fcg_classfile::specs::Breaks::Instructions::table_at))]
 fn pass_table(code: &[u8], at: usize) -> Result<usize, CodeRule>
     requires { at ≤ length code.now }
     ensures value { result ≡ table_at code.now at }
@@ -132,7 +132,7 @@ fn pass_table(code: &[u8], at: usize) -> Result<usize, CodeRule>
 }
 
 // The place after a lookupswitch whose default stands at a place.
-#[tactic(auto, unfolding(fcg_views::specs::Breaks::Instructions::lookup_at))]
+#[tactic(auto, unfolding(fcg_classfile::specs::Breaks::Instructions::lookup_at))]
 fn pass_lookup(code: &[u8], at: usize) -> Result<usize, CodeRule>
     requires { at ≤ length code.now }
     ensures value { result ≡ lookup_at code.now at }
@@ -147,7 +147,7 @@ fn pass_lookup(code: &[u8], at: usize) -> Result<usize, CodeRule>
 }
 
 // The place after an opcode that is made wide, and its operands.
-#[tactic(auto, unfolding(fcg_views::specs::Breaks::Instructions::wide_at))]
+#[tactic(auto, unfolding(fcg_classfile::specs::Breaks::Instructions::wide_at))]
 fn pass_widened(code: &[u8], at: usize) -> Result<usize, CodeRule>
     requires { at ≤ length code.now }
     ensures value { result ≡ wide_at code.now at }
@@ -181,7 +181,7 @@ fn pass_layout(code: &[u8], at: usize, layout: Layout) -> Result<usize, CodeRule
 }
 
 // The number of the two bytes after an opcode that has so many.
-#[tactic(auto, using(fcg_views::proofs::InstructionPlaces::passed_room))]
+#[tactic(auto, using(fcg_classfile::proofs::InstructionPlaces::passed_room))]
 fn operand_after(code: &[u8], at: usize, layout: Layout) -> u16
     requires { IsOk (formed_at code.now at (form_seen (Some layout))) }
     ensures { result ≡ operand_in code.now at (form_seen (Some layout)) }
@@ -195,7 +195,7 @@ fn operand_after(code: &[u8], at: usize, layout: Layout) -> u16
 /// The instruction whose opcode stands at a place of a method's code, or the first rule that it breaks. A code of a
 /// class file has at most 65,535 bytes; the call takes up to 2 ^ 32 - 1 of them, so that each place fits. It takes no
 /// memory and constant time.
-#[tactic(auto, using(fcg_views::proofs::InstructionPlaces::next_at_is))]
+#[tactic(auto, using(fcg_classfile::proofs::InstructionPlaces::next_at_is))]
 pub fn next_instruction(code: &[u8], pc: u16) -> Result<Instruction, CodeRule>
     requires within { pc < length code.now }
     requires short { length code.now < 2 ^ 32 }

@@ -1,9 +1,9 @@
 //! Numbers and strings of bytes of a constant pool. What passes the file's end is cut, at its first byte.
 ghost use Rattle.std.specs.Prelude.{◌≡◌, ◌≤◌, ◌+◌, length, OnOk};
 ghost use Rattle.fcg_grammar.specs.Reading.{seen};
-ghost use Rattle.fcg_views.specs.Breaks.Pool.{u1_at, u2_at, part_at};
+ghost use Rattle.fcg_classfile.specs.Breaks.Pool.{u1_at, u2_at, part_at};
 
-use fcg_views::{PoolFault, PoolRule, pool_fault_at};
+use fcg_classfile::{PoolFault, PoolRule, pool_fault_at};
 
 pub fn read_u1(bytes: &[u8], at: usize) -> Result<u8, PoolFault>
     requires { at ≤ length bytes.now }

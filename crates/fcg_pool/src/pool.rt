@@ -8,8 +8,8 @@ use crate::check::check_slot;
 use crate::constant::{Entry, find_constant, find_tag, find_text, name_at, pair_at, part_in};
 use crate::entries::read_slots;
 use crate::number::read_u2;
+use fcg_classfile::{PoolFault, PoolRule};
 use fcg_grammar::ReadError;
-use fcg_views::{PoolFault, PoolRule};
 use std::alloc::Global;
 use std::marker::Model;
 
@@ -63,7 +63,7 @@ pub struct Pool<'a> {
 
 impl<'a> Model for Pool<'a> {
     ghost use Rattle.std.specs.Prelude.{map};
-    ghost use Rattle.fcg_views.specs.Breaks.Pool.{Entries};
+    ghost use Rattle.fcg_classfile.specs.Breaks.Pool.{Entries};
     ghost use Rattle.fcg_pool.specs.Standing.{slot_in, IsPool};
 
     ghost Value = { Entries };
@@ -74,8 +74,8 @@ impl<'a> Model for Pool<'a> {
 }
 
 impl<'a> Pool<'a> {
-    ghost use Rattle.fcg_views.specs.Breaks.Pool.{Entries, constant_of, text_of, name_of, pair_of, reference_of, handle_of, dynamic_of, slot_kept, pool_at};
-    ghost use Rattle.fcg_views.specs.ClassFile.{tag_of};
+    ghost use Rattle.fcg_classfile.specs.Breaks.Pool.{Entries, constant_of, text_of, name_of, pair_of, reference_of, handle_of, dynamic_of, slot_kept, pool_at};
+    ghost use Rattle.fcg_classfile.specs.ClassFile.{tag_of};
     ghost use Rattle.fcg_pool.specs.Entry.{constant_seen};
     ghost use Rattle.fcg_pool.specs.Standing.{constant_in, Lies};
     ghost use Rattle.fcg_pool.specs.Seen.{indexes_of, span_of, texts_seen, IsTextOf, AreRefTexts, class_name_of, handle_pair_of, handle_indexes_of};
@@ -96,7 +96,7 @@ impl<'a> Pool<'a> {
     }
 
     // The place of the constant at an index.
-    #[tactic(auto, unfolding(fcg_views::specs::Breaks::Pool::constant_of))]
+    #[tactic(auto, unfolding(fcg_classfile::specs::Breaks::Pool::constant_of))]
     fn place(&self, index: u16) -> Result<usize, PoolRule>
         ensures value { seen (constant_in self.now.bytes) result ≡ constant_of self.now index }
         ensures lies { IfOk result (Lies self.now.bytes) }
@@ -129,7 +129,7 @@ impl<'a> Pool<'a> {
 
     /// The text of the Utf8 at an index (JVMS 4.4.7).
     #[inline(always)]
-    #[tactic(auto, unfolding(fcg_views::specs::Breaks::Pool::text_of))]
+    #[tactic(auto, unfolding(fcg_classfile::specs::Breaks::Pool::text_of))]
     pub fn text(&self, index: u16) -> Result<Text<'a>, PoolRule>
         ensures value { seen (λ text. text.bytes.now) result ≡ text_of self.now index }
         ensures named { IfOk result (IsTextOf self.now) }
@@ -153,7 +153,7 @@ impl<'a> Pool<'a> {
     }
 
     /// The index of the name of the Class at an index (JVMS 4.4.1).
-    #[tactic(auto, unfolding(fcg_views::specs::Breaks::Pool::name_of))]
+    #[tactic(auto, unfolding(fcg_classfile::specs::Breaks::Pool::name_of))]
     pub fn class_index(&self, index: u16) -> Result<u16, PoolRule>
         ensures { result ≡ name_of self.now index }
     {
@@ -170,7 +170,7 @@ impl<'a> Pool<'a> {
     }
 
     // The two indexes of the constant at an index, which is of one of these tags.
-    #[tactic(auto, unfolding(fcg_views::specs::Breaks::Pool::pair_of))]
+    #[tactic(auto, unfolding(fcg_classfile::specs::Breaks::Pool::pair_of))]
     fn pair(&self, tags: &[u8], index: u16) -> Result<Indexes, PoolRule>
         ensures { seen indexes_of result ≡ pair_of self.now tags.now index }
     {
@@ -180,7 +180,7 @@ impl<'a> Pool<'a> {
 
     /// What the Fieldref, Methodref or InterfaceMethodref at an index names (JVMS 4.4.2), as texts. The error is the
     /// rule that the first of its indexes breaks: those of the owner come before those of the name and the descriptor.
-    #[tactic(auto, unfolding(fcg_views::specs::Breaks::Pool::reference_of))]
+    #[tactic(auto, unfolding(fcg_classfile::specs::Breaks::Pool::reference_of))]
     pub fn reference_texts(&self, index: u16) -> Result<RefTexts<'a>, PoolRule>
         ensures value { seen texts_seen result ≡ reference_of self.now index }
         ensures named { IfOk result (AreRefTexts self.now) }
@@ -240,7 +240,7 @@ impl<'a> Pool<'a> {
     }
 
     /// The kind of the MethodHandle at an index (JVMS 4.4.8), and what it names.
-    #[tactic(auto, unfolding(fcg_views::specs::Breaks::Pool::handle_of))]
+    #[tactic(auto, unfolding(fcg_classfile::specs::Breaks::Pool::handle_of))]
     pub fn handle(&self, index: u16) -> Result<(u8, RefSpan<'a>), PoolRule>
         ensures { seen (λ x. (x.0, span_of x.1)) result ≡ handle_of self.now index }
     {
@@ -250,7 +250,7 @@ impl<'a> Pool<'a> {
     }
 
     /// The index of the bootstrap method of the InvokeDynamic at an index (JVMS 4.4.10).
-    #[tactic(auto, unfolding(fcg_views::specs::Breaks::Pool::dynamic_of))]
+    #[tactic(auto, unfolding(fcg_classfile::specs::Breaks::Pool::dynamic_of))]
     pub fn dynamic(&self, index: u16) -> Result<u16, PoolRule>
         ensures { result ≡ dynamic_of self.now index }
     {
@@ -270,7 +270,7 @@ impl<'a> Pool<'a> {
 
     /// The pool whose count stands at a place, and the place after it; or its first fault in reading order. Takes one
     /// pass over the constants, and one more over what their indexes name. It takes memory for one place for each index.
-    #[tactic(auto, unfolding(fcg_views::specs::Breaks::Pool::pool_at))]
+    #[tactic(auto, unfolding(fcg_classfile::specs::Breaks::Pool::pool_at))]
     pub fn read(
         alloc: Global,
         bytes: &'a [u8],

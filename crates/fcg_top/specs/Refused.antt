@@ -2,9 +2,9 @@
 use Rattle.std.specs.Prelude.{ℕ, List, [], ◌∷◌, codes}
 use Rattle.std.specs.List.{concat}
 use Rattle.std.specs.Fmt.{decimal}
-use Rattle.fcg_views.specs.declared.fault.ClassFault.{ClassFault}
-use Rattle.fcg_views.specs.declared.fault.ClassRule.{ClassRule}
-use Rattle.fcg_views.specs.declared.fault.ClassRule.TheVariants as class_rules
+use Rattle.fcg_classfile.specs.declared.fault.ClassFault.{ClassFault}
+use Rattle.fcg_classfile.specs.declared.fault.ClassRule.{ClassRule}
+use Rattle.fcg_classfile.specs.declared.fault.ClassRule.TheVariants as class_rules
 use Rattle.fcg_class.specs.declared.bundle.BundleRule.{BundleRule}
 use Rattle.fcg_class.specs.declared.bundle.BundleRule.TheVariants as bundle_rules
 use Rattle.fcg_top.specs.declared.status.Refusal.{Refusal}

@@ -5,7 +5,8 @@ ghost use Rattle.fcg_top.specs.Refused.{bundle_rule_name, class_rule_name, bad_b
 
 use crate::status::Refusal;
 use fcg_class::BundleRule;
-use fcg_views::{Bytes, ClassFault, ClassRule, NoMemory};
+use fcg_classfile::{ClassFault, ClassRule};
+use fcg_views::{Bytes, NoMemory};
 use std::alloc::{AllocError, Global};
 
 fn name_of_bundle_rule(rule: BundleRule) -> &'static str

@@ -2,8 +2,9 @@
 
 use fcg_bytes::ReadAllRefusal;
 use fcg_class::{BundleFault, BundleRule, PackRefusal};
+use fcg_classfile::ClassFault;
 use fcg_grammar::ReadError;
-use fcg_views::{ClassFault, NoMemory};
+use fcg_views::NoMemory;
 
 /// How a run ended. Its number is the exit status of the program.
 #[derive(Clone, Copy, Debug, PartialEq, Eq)]

@@ -4,8 +4,6 @@ pub mod DescFound
 pub mod DescBreaks
 pub mod DescLaws
 pub mod Distinct
-pub mod GroupLemmas
-pub mod InstructionPlaces
 pub mod PartLaws
 pub mod DescPasses
 pub mod CoordinateLaws

@@ -4,15 +4,8 @@ use Rattle.std.specs.Cmp.Lexicographic.{pointwise}
 use Rattle.fcg_views.specs.declared.descriptor.DescSpan.{DescSpan}
 use Rattle.fcg_views.specs.declared.descriptor.DescFault.{DescFault}
 use Rattle.fcg_views.specs.declared.descriptor.DescState.{DescState}
+use Rattle.fcg_views.specs.Descriptor.{is_letter, letter_units}
 use Rattle.fcg_views.specs.declared.descriptor.DescState.TheVariants.{Start, Parameters, Array, Name, Returned, ReturnedArray, ReturnedName, Done}
-
--- BCDFIJSZ
-abbrev pub is_letter : ℕ → Bool
-is_letter b = b == 66 || (b == 67 || (b == 68 || (b == 70 || (b == 73 || (b == 74 || (b == 83 || b == 90))))))
-
--- J and D count two
-abbrev pub letter_units : ℕ → ℕ
-letter_units b = if b == 74 || b == 68 then 2 else 1
 
 -- a parameter that takes so many units more, where they fit
 abbrev pub taken : ℕ → ℕ → ℕ → Option DescState

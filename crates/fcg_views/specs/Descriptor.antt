@@ -1,9 +1,12 @@
 -- Field and method descriptors (JVMS 4.3.2, 4.3.3), with the length of an array and the units of the parameters bounded.
-use Rattle.std.specs.Prelude.{◌≡◌, ℕ, zero, suc, ◌+◌, ◌-◌, ◌^◌, ◌≤◌, ◌<◌, min, List, [], ◌∷◌, ◌++◌, length, take, ◌==◌, true, false, Option, Some, None}
+use Rattle.std.specs.Prelude.{◌≡◌, ℕ, zero, suc, ◌+◌, ◌-◌, ◌^◌, ◌≤◌, ◌<◌, min, List, [], ◌∷◌, ◌++◌, length, take, ◌==◌, Bool, true, false, ◌||◌, Option, Some, None, if◌then◌else◌}
 use Rattle.std.specs.List.{flat_map, AllByRecursion}
 use Rattle.fcg_views.specs.declared.descriptor.DescSpan.{DescSpan}
 use Rattle.fcg_views.specs.declared.descriptor.DescFault.{DescFault}
-use Rattle.fcg_views.specs.DescSteps.{is_letter, letter_units}
+
+-- BCDFIJSZ
+abbrev pub is_letter : ℕ → Bool
+is_letter b = b == 66 || (b == 67 || (b == 68 || (b == 70 || (b == 73 || (b == 74 || (b == 83 || b == 90))))))
 
 -- a field type: a letter of BCDFIJSZ, a class, an array of one of these
 pub data Item : Type 0 where
@@ -46,7 +49,11 @@ IsItem (Class name) = (0 < length name) × AllByRecursion (λ b. (b == 59) ≡ f
 abbrev pub IsFieldType : FieldType → Type 0
 IsFieldType t = (t.dims ≤ 255) × IsItem t.item
 
--- J and D count two, where they are no elements of an array
+-- J and D count two
+abbrev pub letter_units : ℕ → ℕ
+letter_units b = if b == 74 || b == 68 then 2 else 1
+
+-- as a parameter, where it is no element of an array
 abbrev pub item_units : Item → ℕ
 item_units (Letter c) = letter_units c
 item_units (Class name) = 1

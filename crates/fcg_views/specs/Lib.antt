@@ -3,15 +3,8 @@ pub mod Place
 pub mod Descriptor
 pub mod DescSteps
 pub mod DescPasses
-pub mod ClassFile
-pub mod Constants
-pub mod Instructions
-pub mod Sites
-pub mod Reads
-pub mod Breaks
 pub mod Valid
 pub mod DescBounds
 pub mod Coordinate
 pub mod Set
 pub mod Uri
-pub mod Analysis

@@ -1,11 +1,11 @@
 -- Which views are valid: those that a class file could have.
-use Rattle.std.specs.Prelude.{ℕ, ◌+◌, ◌*◌, ◌-◌, ◌≤◌, List, length, sum_by, All, nat_le, Option, Some, None, if◌then◌else◌}
+use Rattle.std.specs.Prelude.{ℕ, ◌+◌, ◌*◌, ◌-◌, ◌≤◌, List, length, sum_by, All, Bool, ◌&&◌, nat_eq, nat_le, Option, Some, None, if◌then◌else◌}
 use Rattle.std.specs.List.{IsDistinct}
+use Rattle.std.specs.Cmp.Lexicographic.{pointwise}
 use Rattle.fcg_views.specs.declared.view.View.{View}
 use Rattle.fcg_views.specs.declared.view.Field.{Field}
 use Rattle.fcg_views.specs.declared.view.Method.{Method}
 use Rattle.fcg_views.specs.declared.view.Site.{Site}
-use Rattle.fcg_views.specs.Breaks.Words.{is_alike}
 
 -- a name fits a Utf8 constant (JVMS 4.4.7)
 abbrev pub IsShort : List ℕ → Type 0
@@ -58,6 +58,14 @@ view_names v = own_names v + sum_by method_names v.methods
 -- all names of views, each as often as it stands
 abbrev pub name_count : List View → ℕ
 name_count views = sum_by view_names views
+
+-- both texts are one
+abbrev pub is_same : List ℕ → List ℕ → Bool
+is_same x y = pointwise nat_eq x y
+
+-- both methods have one name and one descriptor
+abbrev pub is_alike : Method → Method → Bool
+is_alike m n = is_same m.name n.name && is_same m.desc n.desc
 
 pub record IsValid (v : View) : Type 0 where
   pub name : IsShort v.name

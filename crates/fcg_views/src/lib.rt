@@ -1,35 +1,26 @@
 //! The values that every layer speaks of: names, views of class files, and lists of them; coordinates of releases, sets
-//! of these, and URIs of methods. In specs/ stand the public definitions: what a class file is and which first fault
-//! other bytes have, what field and method descriptors are and where other bytes break, what coordinates and method URIs
-//! are and which first fault other texts have, which views are valid, and how names are escaped. The crate stands on the
-//! words of formats alone.
+//! of these, and URIs of methods. In specs/ stand the public definitions: what field and method descriptors are and where
+//! other bytes break, what coordinates and method URIs are and which first fault other texts have, which views are valid,
+//! and how names are escaped. The crate stands on the words of formats alone.
 #![tactic(auto)]
 
-mod code;
 mod coordinate;
 mod descriptor;
 mod escaping;
-mod fault;
 mod items;
 mod laws;
 mod memory;
 mod name;
 mod parting;
 mod set;
-#[cfg(test)]
-mod tests;
 mod unescaping;
 mod uri;
 mod valid;
 mod view;
 
-pub use code::{CodeRule, DynamicCall};
 pub use coordinate::{Coordinate, CoordinateFault};
 pub use descriptor::{DescFault, DescSpan, read_descriptor, read_field_descriptor};
 pub use escaping::{Place, escape, push_escaped};
-pub use fault::{
-    ClassFault, ClassRule, PoolFault, PoolRule, at_index, at_opcode, fault_at, pool_fault_at,
-};
 pub use items::{Bytes, Fields, Items, Methods, Names, Paths, Sites, Views};
 pub use laws::{one_coordinate_verdict, one_uri_verdict};
 pub use memory::NoMemory;

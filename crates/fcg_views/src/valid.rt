@@ -1,8 +1,7 @@
 //! Which views are valid.
 ghost use Rattle.std.specs.Prelude.{◌≡◌, ◌↔◌, ◌≤◌, ◌<◌, ◌^◌, IsTrue, All, false, sum_by};
 ghost use Rattle.std.specs.List.{IsDistinct};
-ghost use Rattle.fcg_views.specs.Breaks.Words.{is_alike};
-ghost use Rattle.fcg_views.specs.Valid.{IsShort, IsShortOrNone, IsTable, HasShortNames, IsValidField, IsValidMethod, IsValid, site_count, left_of, method_names, own_names, view_names, name_count};
+ghost use Rattle.fcg_views.specs.Valid.{IsShort, IsShortOrNone, IsTable, HasShortNames, IsValidField, IsValidMethod, IsValid, site_count, left_of, method_names, own_names, view_names, name_count, is_alike};
 
 use crate::items::Views;
 use crate::name::Name;

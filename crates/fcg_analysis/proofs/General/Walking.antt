@@ -4,7 +4,7 @@ use Rattle.std.specs.Prelude.{Bool, true, false, ◌&&◌, ◌||◌, ◌⊎◌, 
 use Rattle.std.specs.List.{list_any}
 use Rattle.std.proofs.lemmas.Bool.{or_cases, or_left, or_right, and_from}
 use Rattle.std.specs.Cmp.{both_ways}
-use Rattle.fcg_views.specs.Analysis.Walks.{Walk, step, onward, led_within, led_to}
+use Rattle.fcg_analysis.specs.Walks.{Walk, step, onward, led_within, led_to}
 use Rattle.fcg_analysis.proofs.General.Members.{IsIn, IsIn-from_Contains, Contains-from_IsIn, filter_in, in_filter, any_in, in_any, any_more, same_or_more, length-filter_all, and_first, and_second}
 
 -- ---- the list is closed after as many steps as there are elements

@@ -1,4 +1,4 @@
-use Rattle.fcg_views.specs.Analysis.Types.{above, links}
+use Rattle.fcg_analysis.specs.Types.{above, links}
 use Rattle.fcg_analysis.proofs.General.Walking.{any_led_goes_on}
 use Rattle.fcg_analysis.proofs.laws.above_goes_on.Goals as goal
 

@@ -1,4 +1,4 @@
-use Rattle.fcg_views.specs.Analysis.Types.{above, links}
+use Rattle.fcg_analysis.specs.Types.{above, links}
 use Rattle.fcg_analysis.proofs.General.Walking.{walk_from_led, led_from_walk}
 use Rattle.fcg_analysis.proofs.laws.above_is_walks.Goals as goal
 

@@ -1,4 +1,4 @@
-use Rattle.fcg_views.specs.Analysis.Types.{above, links, known}
+use Rattle.fcg_analysis.specs.Types.{above, links, known}
 use Rattle.fcg_analysis.proofs.General.Walking.{led_from_walk}
 use Rattle.fcg_analysis.proofs.WinnerLaws.{known_acyclic}
 use Rattle.fcg_analysis.proofs.laws.known_types_are_acyclic.Goals as goal

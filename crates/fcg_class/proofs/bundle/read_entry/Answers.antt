@@ -1,7 +1,7 @@
 use Rattle.std.proofs.Common.{◌≡◌, true, false, not, sym, ◌∙◌, ap}
 use Rattle.std.specs.List.{list_any}
 use Rattle.std.proofs.lemmas.Result.{err_from_is_err_and}
-use Rattle.fcg_class.specs.Bundle.{is_same}
+use Rattle.fcg_views.specs.Valid.{is_same}
 use Rattle.fcg_class.proofs.EntryLemmas.{stands_before, ArePaths-push, entry_at-twice, entry_at-broken, entry_at-many, entry_at-read}
 use Rattle.fcg_class.proofs.bundle.read_entry.Goals as goal
 

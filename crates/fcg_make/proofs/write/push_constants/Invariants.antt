@@ -1,6 +1,6 @@
 use Rattle.std.proofs.Common.{◌≡◌, ◌++◌, take}
 use Rattle.std.specs.List.{flat_map}
-use Rattle.fcg_views.specs.ClassFile.{constant}
+use Rattle.fcg_classfile.specs.ClassFile.{constant}
 use Rattle.fcg_make.specs.Layout.{constant_of}
 use Rattle.fcg_make.proofs.write.push_constants.Given as goal
 

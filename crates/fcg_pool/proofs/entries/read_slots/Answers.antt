@@ -2,7 +2,7 @@ use Rattle.std.proofs.Common.{◌≤◌, ◌∷◌, [], map, sym, arith, length-
 use Rattle.std.proofs.lemmas.List.{map-append}
 use Rattle.std.proofs.lemmas.Result.{err_from_is_err_and}
 use Rattle.std.proofs.lemmas.List.Elements.{All-push}
-use Rattle.fcg_views.specs.Breaks.Pool.{slot_at}
+use Rattle.fcg_classfile.specs.Breaks.Pool.{slot_at}
 use Rattle.fcg_pool.specs.Standing.{slot_in, IsInside}
 use Rattle.fcg_pool.specs.Seen.{next_of}
 use Rattle.fcg_grammar.proofs.RowLemmas.{rows_go_on, rows_end, rows_done}

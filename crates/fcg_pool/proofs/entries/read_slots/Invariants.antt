@@ -1,6 +1,6 @@
 use Rattle.std.proofs.Common.{◌≡◌, ◌-◌, ◌+◌, ◌≤◌, length, map, All}
 use Rattle.fcg_grammar.specs.Rows.{rows}
-use Rattle.fcg_views.specs.Breaks.Pool.{slot_at}
+use Rattle.fcg_classfile.specs.Breaks.Pool.{slot_at}
 use Rattle.fcg_pool.specs.Standing.{slot_in, IsInside}
 use Rattle.fcg_pool.specs.Seen.{next_of, start}
 use Rattle.fcg_grammar.proofs.RowLemmas.{with_front}

@@ -1,7 +1,7 @@
 use Rattle.std.proofs.Common.{◌∙◌, ◌≤◌, ◌<◌, length, drop, sym, ap, arith, length-drop}
 use Rattle.std.specs.List.{list_all}
 use Rattle.std.proofs.lemmas.List.{take_rest}
-use Rattle.fcg_views.specs.Breaks.Groups.{is_single}
+use Rattle.fcg_classfile.specs.Breaks.Groups.{is_single}
 use Rattle.fcg_pool.proofs.GroupLemmas.{single_passed, single_not, single_last}
 use Rattle.fcg_pool.proofs.groups.are_single_by.Goals as goal
 

@@ -1,6 +1,6 @@
 use Rattle.std.proofs.Common.{◌≡◌, ◌∙◌, ◌<◌, ◌≤◌, length, sym, arith, length-drop}
 use Rattle.std.proofs.lemmas.Bool.Decides.{nat_tests}
-use Rattle.fcg_views.proofs.GroupLemmas.{group_none, group_some, group_end}
+use Rattle.fcg_classfile.proofs.GroupLemmas.{group_none, group_some, group_end}
 use Rattle.fcg_pool.proofs.groups.scan_groups.Goals as goal
 
 pub returns-then-count-eq0 : goal.returns-then-count-eq0

@@ -1,5 +1,5 @@
 use Rattle.std.proofs.Common.{◌≡◌, ◌+◌, length}
-use Rattle.fcg_views.specs.Breaks.Groups.{bad_group}
+use Rattle.fcg_classfile.specs.Breaks.Groups.{bad_group}
 use Rattle.fcg_pool.proofs.groups.scan_groups.Given as goal
 
 abbrev pub invariant-loop-rest : goal.invariant-loop-rest

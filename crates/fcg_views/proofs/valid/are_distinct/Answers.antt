@@ -1,5 +1,5 @@
 use Rattle.std.proofs.Common.{refl}
-use Rattle.fcg_views.specs.Breaks.Words.{is_alike}
+use Rattle.fcg_views.specs.Valid.{is_alike}
 use Rattle.fcg_views.proofs.Distinct.{walked_one, stopped, walked_all}
 use Rattle.fcg_views.proofs.valid.are_distinct.Goals as goal
 

@@ -1,6 +1,6 @@
 use Rattle.std.proofs.Common.{length}
 use Rattle.std.specs.List.{IsDistinct}
-use Rattle.fcg_views.specs.Breaks.Words.{is_alike}
+use Rattle.fcg_views.specs.Valid.{is_alike}
 use Rattle.fcg_views.proofs.valid.are_distinct.Given as goal
 
 abbrev pub invariant-loop-method : goal.invariant-loop-method

@@ -1,6 +1,6 @@
 use Rattle.std.proofs.Common.{◌≡◌, ◌+◌, drop}
 use Rattle.fcg_grammar.specs.Rows.{each}
-use Rattle.fcg_views.specs.Breaks.Pool.{slot_kept}
+use Rattle.fcg_classfile.specs.Breaks.Pool.{slot_kept}
 use Rattle.fcg_pool.proofs.pool.Pool.check.Given as goal
 
 abbrev pub invariant-loop-i : goal.invariant-loop-i

@@ -1,6 +1,6 @@
 use Rattle.std.proofs.Common.{◌∙◌, sym, ap}
 use Rattle.std.specs.Prelude.{Ok, Some}
-use Rattle.fcg_views.specs.Breaks.Pool.{Entries, in_slot}
+use Rattle.fcg_classfile.specs.Breaks.Pool.{Entries, in_slot}
 use Rattle.fcg_pool.specs.Standing.{slot_in, constant_in}
 use Rattle.fcg_pool.proofs.PlaceLemmas.{constant_known}
 use Rattle.fcg_pool.proofs.pool.Pool.place.Goals as goal

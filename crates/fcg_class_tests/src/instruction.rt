@@ -1,0 +1,195 @@
+use fcg_classfile::CodeRule;
+use fcg_pool::{Instruction, next_instruction};
+
+// What each opcode begins where it stands first, by the pages of JVMS 6.5: how many bytes, where zeros follow from the
+// fourth byte on; a tableswitch, a lookupswitch, a wide; nothing.
+const OPCODES: [&[u8; 16]; 16] = [
+    b"1111111111111111",
+    b"2323322222111111",
+    b"1111111111111111",
+    b"1111112222211111",
+    b"1111111111111111",
+    b"1111111111111111",
+    b"1111111111111111",
+    b"1111111111111111",
+    b"1111311111111111",
+    b"1111111113333333",
+    b"3333333332tl1111",
+    b"1133333335532311",
+    b"3311w43355------",
+    b"----------------",
+    b"----------------",
+    b"----------------",
+];
+
+// The two bytes after the opcode are the padding of a switch, and no opcode that can be made wide.
+#[test]
+fn knows_each_opcode(rt: HostRuntime) {
+    for opcode in 0..=255u8 {
+        let mut code = [0; 24];
+        code[0] = opcode;
+        code[1] = 1;
+        code[2] = 2;
+        let (next, operand) = match OPCODES[usize::from(opcode / 16)][usize::from(opcode % 16)] {
+            b'1' => (Ok(1), 0),
+            b'2' => (Ok(2), 0),
+            b'3' => (Ok(3), 258),
+            b'4' => (Ok(4), 258),
+            b'5' => (Ok(5), 258),
+            b't' => (Ok(20), 0),
+            b'l' => (Ok(12), 0),
+            b'w' => (Err(CodeRule::BadWide), 0),
+            _ => (Err(CodeRule::BadOpcode), 0),
+        };
+        let want = next.map(|next| Instruction {
+            opcode,
+            operand,
+            next,
+        });
+        assert_eq!(rt; next_instruction(&code, 0), want, "at {opcode}");
+    }
+}
+
+// A nop each, a tableswitch with one offset, an invokestatic.
+#[test]
+fn pads_from_the_start_of_the_code(rt: HostRuntime) {
+    for (nops, want) in [(0, 20), (1, 20), (2, 20), (3, 20), (4, 24)] {
+        let mut code = [0; 27];
+        code[nops] = 170;
+        code[want] = 184;
+        let mut pc: u16 = 0;
+        for _ in 0..=nops {
+            assert!(rt; pc < 27);
+            let next = next_instruction(&code, pc).map_or(0, |instruction| instruction.next);
+            pc = u16::try_from(next).unwrap_or(0);
+        }
+        assert_eq!(rt; usize::from(pc), want, "after {nops}");
+        assert!(rt; pc < 27);
+        let last = Instruction {
+            opcode: 184,
+            operand: 0,
+            next: u32::from(pc) + 3,
+        };
+        assert_eq!(rt; next_instruction(&code, pc), Ok(last), "after {nops}");
+    }
+}
+
+// An instruction with zeros after its first bytes, cut at each length: it is cut below the given length, and from
+// there on as wanted.
+#[test]
+fn tells_what_is_broken(rt: HostRuntime) {
+    for (front, whole, want) in [
+        // a lookupswitch with 0, 2, 2^31 - 1, 2^31 and -1 pairs
+        (
+            [171, 9, 9, 9, 0, 0, 0, 0, 0, 0, 0, 0, 0, 0, 0, 0],
+            12,
+            Ok(12),
+        ),
+        (
+            [171, 0, 0, 0, 0, 0, 0, 0, 0, 0, 0, 2, 0, 0, 0, 0],
+            28,
+            Ok(28),
+        ),
+        (
+            [171, 0, 0, 0, 0, 0, 0, 0, 127, 255, 255, 255, 0, 0, 0, 0],
+            33,
+            Ok(0),
+        ),
+        (
+            [171, 0, 0, 0, 0, 0, 0, 0, 128, 0, 0, 0, 0, 0, 0, 0],
+            12,
+            Err(CodeRule::BadSwitch),
+        ),
+        (
+            [171, 0, 0, 0, 0, 0, 0, 0, 255, 255, 255, 255, 0, 0, 0, 0],
+            12,
+            Err(CodeRule::BadSwitch),
+        ),
+        // a tableswitch from -1 to 1, from 7 to 7, from -2^31 to 2^31 - 1, from 1 to 0, from 0 to -1
+        (
+            [170, 9, 9, 9, 0, 0, 0, 0, 255, 255, 255, 255, 0, 0, 0, 1],
+            28,
+            Ok(28),
+        ),
+        (
+            [170, 0, 0, 0, 0, 0, 0, 0, 0, 0, 0, 7, 0, 0, 0, 7],
+            20,
+            Ok(20),
+        ),
+        (
+            [170, 0, 0, 0, 0, 0, 0, 0, 128, 0, 0, 0, 127, 255, 255, 255],
+            33,
+            Ok(0),
+        ),
+        (
+            [170, 0, 0, 0, 0, 0, 0, 0, 0, 0, 0, 1, 0, 0, 0, 0],
+            16,
+            Err(CodeRule::BadSwitch),
+        ),
+        (
+            [170, 0, 0, 0, 0, 0, 0, 0, 0, 0, 0, 0, 255, 255, 255, 255],
+            16,
+            Err(CodeRule::BadSwitch),
+        ),
+        // wide before iload, astore, ret, iinc, nop, bipush, iload_0 and wide
+        (
+            [196, 21, 0, 1, 0, 0, 0, 0, 0, 0, 0, 0, 0, 0, 0, 0],
+            4,
+            Ok(4),
+        ),
+        (
+            [196, 58, 0, 1, 0, 0, 0, 0, 0, 0, 0, 0, 0, 0, 0, 0],
+            4,
+            Ok(4),
+        ),
+        (
+            [196, 169, 0, 1, 0, 0, 0, 0, 0, 0, 0, 0, 0, 0, 0, 0],
+            4,
+            Ok(4),
+        ),
+        (
+            [196, 132, 0, 1, 0, 1, 0, 0, 0, 0, 0, 0, 0, 0, 0, 0],
+            6,
+            Ok(6),
+        ),
+        (
+            [196, 0, 0, 0, 0, 0, 0, 0, 0, 0, 0, 0, 0, 0, 0, 0],
+            2,
+            Err(CodeRule::BadWide),
+        ),
+        (
+            [196, 16, 0, 0, 0, 0, 0, 0, 0, 0, 0, 0, 0, 0, 0, 0],
+            2,
+            Err(CodeRule::BadWide),
+        ),
+        (
+            [196, 26, 0, 0, 0, 0, 0, 0, 0, 0, 0, 0, 0, 0, 0, 0],
+            2,
+            Err(CodeRule::BadWide),
+        ),
+        (
+            [196, 196, 0, 0, 0, 0, 0, 0, 0, 0, 0, 0, 0, 0, 0, 0],
+            2,
+            Err(CodeRule::BadWide),
+        ),
+        // an invokeinterface, and an opcode that nothing has
+        ([185, 0, 1, 1, 0, 0, 0, 0, 0, 0, 0, 0, 0, 0, 0, 0], 5, Ok(5)),
+        (
+            [202, 0, 0, 0, 0, 0, 0, 0, 0, 0, 0, 0, 0, 0, 0, 0],
+            1,
+            Err(CodeRule::BadOpcode),
+        ),
+    ] {
+        let mut code = [0; 32];
+        code[..16].copy_from_slice(&front);
+        for end in 1..=32 {
+            let want = if end < whole {
+                Err(CodeRule::CodeCut)
+            } else {
+                want
+            };
+            let next = next_instruction(&code[..end], 0).map(|instruction| instruction.next);
+            assert_eq!(rt; next, want, "at {front:?} cut at {end}");
+        }
+    }
+}

@@ -1,5 +1,0 @@
-use Rattle.fcg_laws.proofs.ClassLaws.{verdict}
-use Rattle.fcg_laws.proofs.laws.one_verdict.Goals as goal
-
-pub returns : goal.returns
-returns c = λ bytes fits. verdict bytes fits

@@ -1,4 +1,0 @@
-//! Constant pools and instructions.
-
-mod instruction;
-mod pool;

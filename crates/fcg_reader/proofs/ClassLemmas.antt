@@ -1,0 +1,14 @@
+-- The attributes of a class.
+use Rattle.std.proofs.Common.{◌≡◌, ℕ, List, refl, sym}
+use Rattle.std.specs.Prelude.{Option, Some, None, is_some}
+use Rattle.std.specs.Global.{Vec}
+use Rattle.std.proofs.lemmas.Option.{none-some}
+use Rattle.fcg_classfile.specs.ClassFile.{BootstrapMethod}
+use Rattle.fcg_reader.specs.Class.{rows_said, rows_seen}
+
+-- one was read wherever it is said to stand
+pub some_said : (read : Option (ℕ × List BootstrapMethod)) (found : Option (Vec BootstrapMethod)) → rows_said read ≡ rows_seen found → is_some found ≡ is_some read
+some_said None None e = refl
+some_said None (Some rows) e = absurd (none-some rows.items e)
+some_said (Some x) None e = absurd (none-some x.1 (sym e))
+some_said (Some x) (Some rows) e = refl

@@ -1,0 +1,10 @@
+pub mod FirstLemmas
+pub mod NameLemmas
+pub mod AttributeLemmas
+pub mod CodeLemmas
+pub mod MethodLemmas
+pub mod ClassLemmas
+pub mod ViewLemmas
+pub mod OverLemmas
+pub mod SiteLemmas
+pub mod HandleLemmas

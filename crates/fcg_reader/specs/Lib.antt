@@ -1,0 +1,9 @@
+pub mod Firsts
+pub mod Names
+pub mod Attributes
+pub mod Calls
+pub mod Methods
+pub mod Members
+pub mod Class
+pub mod Sites
+pub mod Handles

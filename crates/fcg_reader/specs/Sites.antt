@@ -1,0 +1,37 @@
+-- What the reader of sites answers.
+use Rattle.std.specs.Prelude.{◌≡◌, List, ◌++◌, ◌==◌, Option, Some, None, Result, Ok, Err}
+use Rattle.fcg_grammar.specs.declared.error.ReadError.{ReadError}
+use Rattle.fcg_grammar.specs.Reading.{Fails}
+use Rattle.fcg_classfile.specs.declared.code.DynamicCall.{DynamicCall}
+use Rattle.fcg_classfile.specs.declared.fault.ClassFault.{ClassFault}
+use Rattle.fcg_views.specs.declared.view.Site.{Site}
+use Rattle.fcg_views.specs.declared.view.Ref.{Ref}
+use Rattle.fcg_classfile.specs.Sites as sites
+use Rattle.fcg_pool.specs.declared.pool.RefTexts.{RefTexts}
+use Rattle.fcg_reader.specs.declared.site.Target.{Target}
+use Rattle.fcg_reader.specs.declared.site.Target.TheVariants.{Method, Field, «Type»}
+use Rattle.fcg_reader.specs.declared.site.SiteForm.{SiteForm}
+
+-- what an instruction has is added to the sites and the calls before; or the fault
+abbrev pub GivesFound : Result (Unit {0}) (ReadError ClassFault) → List Site → List Site → List DynamicCall → List DynamicCall → Result sites.Found ClassFault → Type 0
+GivesFound (Ok done) old_sites new_sites old_calls new_calls read =
+    (here : sites.Found) × (read ≡ Ok here) × (new_sites ≡ old_sites ++ here.sites) × (new_calls ≡ old_calls ++ here.calls)
+GivesFound (Err e) old_sites new_sites old_calls new_calls read = Fails e read
+
+-- what a site names, as that of the definition
+abbrev pub target_in : Target → sites.Target
+target_in (Method tags) = sites.ToMethod tags.now
+target_in Field = sites.ToField
+target_in «Type» = sites.ToType
+
+-- the form of the code, as that of the definition
+abbrev pub form_in : SiteForm → sites.SiteForm
+form_in form = record { kind = form.kind; target = target_in form.target }
+
+abbrev pub form_seen : Option SiteForm → Option sites.SiteForm
+form_seen None = None
+form_seen (Some form) = Some (form_in form)
+
+-- the member that a reference of the pool names
+abbrev pub ref_of : RefTexts → Ref
+ref_of x = record { owner = x.owner.bytes.now; owner_is_interface_ref = x.tag == 11; name = x.name.bytes.now; desc = x.desc.bytes.now }

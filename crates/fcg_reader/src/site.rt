@@ -1,0 +1,231 @@
+//! The sites of a method's code, and its calls of bootstrap methods: the instructions that name a method, a field, a
+//! type or a bootstrap method (JVMS 6.5).
+ghost use Rattle.std.specs.Prelude.{◌≡◌, ◌+◌, ◌<◌, ◌^◌, false, None, OnOk, IfOk, slice_index};
+ghost use Rattle.fcg_grammar.specs.Reading.{seen, Gives};
+ghost use Rattle.fcg_classfile.specs.Sites.{ToType, site_form, is_dynamic};
+ghost use Rattle.fcg_classfile.specs.Breaks.Instructions.{operand_at};
+ghost use Rattle.fcg_classfile.specs.Breaks.Code.{member_of, target_of, site_of, found_at};
+ghost use Rattle.fcg_pool.specs.Seen.{AreRefTexts};
+ghost use Rattle.fcg_reader.specs.Names.{is_of_kind};
+ghost use Rattle.fcg_reader.specs.Calls.{ArePlaced};
+ghost use Rattle.fcg_reader.specs.Sites.{GivesFound, form_in, form_seen, target_in, ref_of};
+
+use crate::names::{ClassNames, DescKind};
+use crate::text::find_type_of;
+use fcg_classfile::{ClassFault, ClassRule, DynamicCall, at_index, fault_at};
+use fcg_grammar::ReadError;
+use fcg_pool::{Instruction, RefTexts, is_one_of};
+use fcg_views::{NoMemory, Ref, Site, SiteKind};
+
+/// How many sites a class may have.
+pub const MOST_SITES: usize = 1_000_000;
+
+/// The code of a method (JVMS 4.7.3): its bytes, and where the first of them stands.
+#[derive(Clone, Copy)]
+pub struct CodeSpan<'a> {
+    /// In bytes from the file's start.
+    pub begin: usize,
+    pub bytes: &'a [u8],
+}
+
+/// What a site names.
+#[derive(Clone, Copy)]
+pub enum Target {
+    /// A method, by a constant of one of these tags: 10 is a Methodref, 11 an InterfaceMethodref (JVMS 4.4.2).
+    Method(&'static [u8]),
+    Field,
+    /// A type alone.
+    Type,
+}
+
+/// What the sites of an opcode or of a kind of method handles have: their kind, and what they name.
+#[derive(Clone, Copy)]
+pub struct SiteForm {
+    pub kind: SiteKind,
+    pub target: Target,
+}
+
+// What the sites of an opcode have, or `None` where it has none.
+fn form_of(opcode: u8) -> Option<SiteForm>
+    ensures { form_seen result ≡ site_form opcode }
+{
+    let (kind, target) = match opcode {
+        178 | 179 => (SiteKind::StaticField, Target::Field),
+        182 => (SiteKind::Virtual, Target::Method(&[10])),
+        183 => (SiteKind::Special, Target::Method(&[10, 11])),
+        184 => (SiteKind::Static, Target::Method(&[10, 11])),
+        185 => (SiteKind::Interface, Target::Method(&[11])),
+        187 => (SiteKind::New, Target::Type),
+        _ => return None,
+    };
+    Some(SiteForm { kind, target })
+}
+
+// Whether an opcode is `invokedynamic`.
+fn is_dynamic(opcode: u8) -> bool
+    ensures { result ≡ is_dynamic opcode }
+{
+    opcode == 186
+}
+
+// The member of a type that an index names, by a constant of one of these tags and with a descriptor of a kind. A fault
+// is at the given place of the file.
+#[inline(always)]
+#[tactic(auto, unfolding(fcg_classfile::specs::Breaks::Code::member_of))]
+fn find_member<'a>(
+    names: &mut ClassNames<'a>,
+    kind: DescKind,
+    tags: &[u8],
+    at: usize,
+    index: u16,
+) -> Result<RefTexts<'a>, ClassFault>
+    ensures value { seen ref_of result ≡ member_of names.old (is_of_kind kind) tags.now at index }
+    ensures named { IfOk result (AreRefTexts names.old) }
+    ensures same { names.new ≡ names.old }
+{
+    let member = at_index(at, index, names.pool().reference_texts(index))?;
+    if !is_one_of(tags, member.tag) {
+        return Err(fault_at(at, index, ClassRule::WrongKind));
+    }
+    if member.owner.bytes.is_empty() || member.name.bytes.is_empty() {
+        return Err(fault_at(at, 0, ClassRule::EmptyName));
+    }
+    if !names.is_descriptor(kind, &member.desc) {
+        return Err(fault_at(at, 0, ClassRule::Descriptor));
+    }
+    Ok(member)
+}
+
+// A member of a type.
+#[inline(always)]
+fn make_ref(names: &mut ClassNames<'_>, member: &RefTexts<'_>) -> Result<Ref, NoMemory>
+    requires { AreRefTexts names.old member.now }
+    ensures ok { IfOk result (λ target. target ≡ ref_of member.now) }
+    ensures same { names.new ≡ names.old }
+{
+    Ok(Ref {
+        owner: names.name(&member.owner)?,
+        owner_is_interface_ref: member.tag == 11,
+        name: names.name(&member.name)?,
+        desc: names.name(&member.desc)?,
+    })
+}
+
+// The member of a type that an index names, by a constant of one of these tags and with a descriptor of a kind.
+fn read_member(
+    names: &mut ClassNames<'_>,
+    kind: DescKind,
+    tags: &[u8],
+    at: usize,
+    index: u16,
+) -> Result<Ref, ReadError<ClassFault>>
+    ensures value { Gives (λ target. target) result (member_of names.old (is_of_kind kind) tags.now at index) }
+    ensures same { names.new ≡ names.old }
+{
+    let member = find_member(names, kind, tags, at, index)?;
+    Ok(make_ref(names, &member)?)
+}
+
+// The type that an index names, without a member.
+fn read_type_ref(
+    names: &mut ClassNames<'_>,
+    at: usize,
+    index: u16,
+) -> Result<Ref, ReadError<ClassFault>>
+    ensures value { Gives (λ target. target) result (target_of names.old ToType at index) }
+    ensures same { names.new ≡ names.old }
+{
+    let owner = find_type_of(names.pool(), at, index)?;
+    Ok(Ref {
+        owner: names.name(&owner)?,
+        owner_is_interface_ref: false,
+        name: names.empty_name()?,
+        desc: names.empty_name()?,
+    })
+}
+
+// What a site names by an index. A fault is at the given place of the file.
+#[inline(always)]
+fn read_target(
+    names: &mut ClassNames<'_>,
+    target: Target,
+    at: usize,
+    index: u16,
+) -> Result<Ref, ReadError<ClassFault>>
+    ensures value { Gives (λ named. named) result (target_of names.old (target_in target) at index) }
+    ensures same { names.new ≡ names.old }
+{
+    match target {
+        Target::Method(tags) => read_member(names, DescKind::Method, tags, at, index),
+        Target::Field => read_member(names, DescKind::Field, &[9], at, index),
+        Target::Type => read_type_ref(names, at, index),
+    }
+}
+
+/// The site of a form that has an index at a pc. `count` is the number of sites of the class before it.
+///
+/// A fault is at the place `at` of the file. It is the first of these: the index, which is the fault's own, names
+/// nothing that the form may have, as a method reference, a field reference or a type; the name of the type, the method
+/// or the field is empty; the descriptor of a method is no method descriptor, or that of a field no field descriptor;
+/// the class has as many sites before as it may have.
+///
+/// Takes constant time, but where a descriptor is needed for the first time: then it is read.
+#[inline(always)]
+#[tactic(auto, unfolding(fcg_classfile::specs::Breaks::Code::site_of))]
+pub fn read_site_of(
+    names: &mut ClassNames<'_>,
+    form: SiteForm,
+    at: usize,
+    pc: u16,
+    index: u16,
+    count: usize,
+) -> Result<Site, ReadError<ClassFault>>
+    ensures value { Gives (λ site. site) result (site_of names.old (form_in form) at pc index count) }
+    ensures same { names.new ≡ names.old }
+{
+    let target = read_target(names, form.target, at, index)?;
+    if count >= MOST_SITES {
+        return Err(ReadError::Fault(fault_at(at, 0, ClassRule::ManySites)));
+    }
+    Ok(Site {
+        pc,
+        kind: form.kind,
+        target,
+    })
+}
+
+/// Adds the site or the call of a bootstrap method that the instruction whose opcode stands at a place of the code has.
+/// `count` is the number of sites of the class before it.
+///
+/// A fault is at the place of the opcode in the file: that of the site, or of the operand of `invokedynamic`, which
+/// names no InvokeDynamic.
+#[tactic(auto, unfolding(fcg_classfile::specs::Breaks::Code::found_at))]
+pub fn push_site_or_call(
+    names: &mut ClassNames<'_>,
+    code: CodeSpan<'_>,
+    pc: u16,
+    instruction: Instruction,
+    count: usize,
+    sites: &mut Vec<Site>,
+    calls: &mut Vec<DynamicCall>,
+) -> Result<(), ReadError<ClassFault>>
+    requires place { code.begin + pc < 2 ^ 64 }
+    requires opcode { instruction.opcode ≡ slice_index code.bytes.now pc }
+    requires operand { instruction.operand ≡ operand_at code.bytes.now pc }
+    ensures value { GivesFound result sites.old.items sites.new.items calls.old.items calls.new.items (found_at names.old code.entry.begin code.entry.bytes.now pc count) }
+    ensures placed { ArePlaced code.entry.begin calls.old.items → OnOk result (ArePlaced code.entry.begin calls.new.items) }
+    ensures same { names.new ≡ names.old }
+{
+    let at = code.begin + usize::from(pc);
+    let operand = instruction.operand;
+    if is_dynamic(instruction.opcode) {
+        let bootstrap = at_index(at, operand, names.pool().dynamic(operand))?;
+        calls.push(DynamicCall { pc, bootstrap })?;
+        return Ok(());
+    }
+    if let Some(form) = form_of(instruction.opcode) {
+        let site = read_site_of(names, form, at, pc, operand, count)?;
+        sites.push(site)?;
+    }
+    Ok(())
+}

@@ -1,0 +1,3 @@
+//! Handle sites, by private functions.
+
+mod handles;

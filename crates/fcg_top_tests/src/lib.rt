@@ -1,0 +1,11 @@
+//! The tests of the commands, and those that need the writer of class files, by public calls alone.
+#![tactic(auto)]
+
+#[cfg(test)]
+mod class_files;
+#[cfg(test)]
+mod packs;
+#[cfg(test)]
+mod runs;
+#[cfg(test)]
+mod written;

@@ -4,8 +4,8 @@ use Rattle.std.specs.Prelude.{Bool, true, false, not, cond, ◌||◌, ◌&&◌, 
 use Rattle.std.specs.List.{list_any}
 use Rattle.std.specs.Cmp.Lexicographic.{bytes_decides}
 use Rattle.std.proofs.lemmas.Bool.{or_parts, false_from_ne_true}
-use Rattle.fcg_analysis.specs.Words.{contains}
-use Rattle.fcg_analysis.specs.Says.{Placed, is_type, is_class, is_interface, is_object, object_name, superclass_names}
+use Rattle.fcg_analysis.specs.NamesAndFlags.{contains}
+use Rattle.fcg_analysis.specs.Declarations.{Placed, is_type, is_class, is_interface, is_object, object_name, superclass_names}
 use Rattle.fcg_analysis.specs.Types.{extends, superclass, line, chain, object}
 use Rattle.fcg_analysis.specs.Laws.{IsAcyclic, line_above, chain_above}
 use Rattle.fcg_analysis.proofs.General.Members.{Contains-from_IsIn, IsIn, and_first, and_second, find_in}

@@ -8,7 +8,7 @@ use Rattle.std.specs.Ordering.{nat_cmp, ordering_then}
 use Rattle.std.specs.Cmp.{IsTotalOrder, on_total, then_total}
 use Rattle.std.proofs.lemmas.Bool.{lt-ltb}
 use Rattle.std.proofs.lemmas.Cmp.{nat_cmp_total, tied_itself}
-use Rattle.fcg_analysis.specs.Says.{Placed}
+use Rattle.fcg_analysis.specs.Declarations.{Placed}
 use Rattle.fcg_analysis.specs.Nodes.{Node, nodes}
 use Rattle.fcg_analysis.specs.Edges.{edge, edges}
 use Rattle.fcg_analysis.specs.Laws.{IsEdge, edge_cmp}

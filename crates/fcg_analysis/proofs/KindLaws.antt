@@ -2,9 +2,9 @@
 use Rattle.std.proofs.Common.{◌≡◌, List, ap, inl, inr}
 use Rattle.std.specs.Prelude.{Bool, true, false, not}
 use Rattle.std.proofs.lemmas.Bool.{or_cases}
-use Rattle.fcg_analysis.specs.Words.{contains}
+use Rattle.fcg_analysis.specs.NamesAndFlags.{contains}
 use Rattle.fcg_analysis.specs.Walks.{Walk, step, onward}
-use Rattle.fcg_analysis.specs.Says.{Placed, is_class, is_interface, interface_names}
+use Rattle.fcg_analysis.specs.Declarations.{Placed, is_class, is_interface, interface_names}
 use Rattle.fcg_analysis.specs.Types.{links, extends, implements}
 use Rattle.fcg_analysis.proofs.ChainLaws.{extends_class}
 use Rattle.fcg_analysis.proofs.General.Members.{and_first}

@@ -2,7 +2,7 @@
 use Rattle.std.proofs.Common.{◌≡◌, ℕ, List, refl, sym, ap, ◌∙◌}
 use Rattle.std.specs.Prelude.{Bool, true, false, not, cond, find, Option, Some, None}
 use Rattle.std.specs.Cmp.Lexicographic.{bytes_decides}
-use Rattle.fcg_analysis.specs.Says.{Placed, is_named}
+use Rattle.fcg_analysis.specs.Declarations.{Placed, is_named}
 use Rattle.fcg_analysis.specs.Types.{winners, known, named, is_circular}
 use Rattle.fcg_analysis.specs.Laws.{unless_circular}
 use Rattle.fcg_analysis.proofs.General.Members.{IsIn, find_filter, kept}

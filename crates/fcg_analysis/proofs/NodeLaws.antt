@@ -3,7 +3,7 @@ use Rattle.std.proofs.Common.{◌≡◌, ℕ, ◌+◌, ◌<◌, ◌≤◌, List,
 use Rattle.std.specs.Prelude.{⊤, map, Contains}
 use Rattle.std.specs.List.{range_with_len, AllByRecursion}
 use Rattle.fcg_views.specs.declared.view.Method.{Method}
-use Rattle.fcg_analysis.specs.Says.{Placed}
+use Rattle.fcg_analysis.specs.Declarations.{Placed}
 use Rattle.fcg_analysis.specs.Nodes.{Node, nodes, nodes_from}
 use Rattle.fcg_analysis.proofs.General.Members.{IsIn, IsIn-from_Contains}
 use Rattle.fcg_analysis.proofs.General.Sorted.{all_from_in}

@@ -6,8 +6,8 @@ use Rattle.std.specs.Cmp.Lexicographic.{bytes_decides}
 use Rattle.std.proofs.lemmas.Bool.{or_cases, or_left, or_right, and_from}
 use Rattle.std.specs.Cmp.{both_ways}
 use Rattle.fcg_views.specs.declared.view.Method.{Method}
-use Rattle.fcg_analysis.specs.Words.{same, before, package_of}
-use Rattle.fcg_analysis.specs.Says.{Placed, is_type, is_instance, is_private, is_public, is_protected, is_package_private, has_signature, signature_of}
+use Rattle.fcg_analysis.specs.NamesAndFlags.{same, before, package_of}
+use Rattle.fcg_analysis.specs.Declarations.{Placed, is_type, is_instance, is_private, is_public, is_protected, is_package_private, has_signature, signature_of}
 use Rattle.fcg_analysis.specs.Types.{chain, superclass}
 use Rattle.fcg_analysis.specs.Nodes.{Node, nodes, nodes_from}
 use Rattle.fcg_analysis.specs.Selection.{between, same_package, overrides_itself, may_override, overrides_over, can_override}

@@ -1,8 +1,8 @@
 -- Why a method is selected.
 use Rattle.std.proofs.Common.{◌≡◌, List, refl, sym, subst, inl, inr}
 use Rattle.std.specs.Prelude.{Bool, true, false, cond, ◌&&◌, ◌⊎◌, find, Option, Some, None}
-use Rattle.fcg_analysis.specs.Words.{or_else}
-use Rattle.fcg_analysis.specs.Says.{Placed, Signature, is_type, is_private}
+use Rattle.fcg_analysis.specs.NamesAndFlags.{or_else}
+use Rattle.fcg_analysis.specs.Declarations.{Placed, Signature, is_type, is_private}
 use Rattle.fcg_analysis.specs.Types.{chain}
 use Rattle.fcg_analysis.specs.Nodes.{Node, nodes, one_default}
 use Rattle.fcg_analysis.specs.Resolution.{Found, Phantom}

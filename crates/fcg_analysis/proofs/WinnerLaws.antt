@@ -6,7 +6,7 @@ use Rattle.std.specs.Cmp.Lexicographic.{bytes_decides, nat_list_eq_equiv}
 use Rattle.std.proofs.lemmas.Bool.{or_left, or_right, or_from, false_from_ne_true}
 use Rattle.std.proofs.lemmas.List.Folds.{list_any-append}
 use Rattle.fcg_analysis.specs.Walks.{Walk}
-use Rattle.fcg_analysis.specs.Says.{Placed, is_named, is_type}
+use Rattle.fcg_analysis.specs.Declarations.{Placed, is_named, is_type}
 use Rattle.fcg_analysis.specs.Types.{winners, winners_after, links, above, is_circular, known}
 use Rattle.fcg_analysis.proofs.General.Members.{Contains-from_IsIn, IsIn-from_Contains, any_in, in_any, in_filter}
 use Rattle.fcg_analysis.proofs.General.Sorted.{all_from_in, in_all}

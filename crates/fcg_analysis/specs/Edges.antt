@@ -6,7 +6,7 @@ use Rattle.fcg_views.specs.declared.view.SiteKind.TheVariants.{Virtual, Interfac
 use Rattle.fcg_views.specs.declared.view.HandleKind.{HandleKind}
 use Rattle.fcg_views.specs.declared.view.HandleKind.TheVariants.{K5, K6, K7, K8, K9}
 use Rattle.fcg_views.specs.declared.view.Site.{Site}
-use Rattle.fcg_analysis.specs.Says.{Placed, signature_in, is_class, is_abstract_type, is_static, is_instance, is_abstract, has_array_owner}
+use Rattle.fcg_analysis.specs.Declarations.{Placed, signature_in, is_class, is_abstract_type, is_static, is_instance, is_abstract, has_array_owner}
 use Rattle.fcg_analysis.specs.Types.{is_below}
 use Rattle.fcg_analysis.specs.Nodes.{Node, nodes, is_node}
 use Rattle.fcg_analysis.specs.Resolution.{Outcome, Found, Phantom, Failed, Cause, resolved}

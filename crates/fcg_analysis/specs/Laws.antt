@@ -4,7 +4,7 @@ use Rattle.std.specs.List.{list_any}
 use Rattle.std.specs.declared.cmp.Ordering.{Ordering}
 use Rattle.std.specs.Ordering.{nat_cmp, ordering_then}
 use Rattle.fcg_analysis.specs.Walks.{Walk}
-use Rattle.fcg_analysis.specs.Says.{Placed, Signature, is_class, is_type, is_public, is_private, is_protected, is_package_private}
+use Rattle.fcg_analysis.specs.Declarations.{Placed, Signature, is_class, is_type, is_public, is_private, is_protected, is_package_private}
 use Rattle.fcg_analysis.specs.Types.{links, line, chain, object, is_circular}
 use Rattle.fcg_analysis.specs.Nodes.{Node, nodes, one_default}
 use Rattle.fcg_analysis.specs.Selection.{between, may_override, overrides_itself, same_package, can_override, can_override_phantom}

@@ -1,5 +1,5 @@
-pub mod Words
-pub mod Says
+pub mod NamesAndFlags
+pub mod Declarations
 pub mod Walks
 pub mod Types
 pub mod Nodes
@@ -8,8 +8,5 @@ pub mod Selection
 pub mod Special
 pub mod Edges
 pub mod Reach
-pub mod Computed
-pub mod Short
-pub mod Sets
-pub mod Choices
 pub mod Laws
+pub mod Cases

@@ -3,8 +3,8 @@ use Rattle.std.specs.Prelude.{ℕ, ◌+◌, List, [], ◌∷◌, Bool, not, ◌&
 use Rattle.std.specs.List.{list_any}
 use Rattle.fcg_views.specs.declared.view.Method.{Method}
 use Rattle.fcg_views.specs.declared.uri.MethodUri.{MethodUri}
-use Rattle.fcg_analysis.specs.Words.{one, first_of_list}
-use Rattle.fcg_analysis.specs.Says.{Placed, Signature, has_signature, is_type, is_interface, is_abstract, is_private, is_static}
+use Rattle.fcg_analysis.specs.NamesAndFlags.{one, first_of_list}
+use Rattle.fcg_analysis.specs.Declarations.{Placed, Signature, has_signature, is_type, is_interface, is_abstract, is_private, is_static}
 use Rattle.fcg_analysis.specs.Types.{above, is_above}
 
 -- ---- Nodes. The methods of the known types, in their order, numbered from 0.

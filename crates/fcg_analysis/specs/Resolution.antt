@@ -1,8 +1,8 @@
 -- Method resolution (JVMS 5.4.3.3 and 5.4.3.4).
 use Rattle.std.specs.Prelude.{List, ◌&&◌, Option, Some, None, option_and_then, if◌then◌else◌}
 use Rattle.fcg_views.specs.declared.view.Ref.{Ref}
-use Rattle.fcg_analysis.specs.Words.{or_else, found_in}
-use Rattle.fcg_analysis.specs.Says.{Placed, Signature, signature_in, is_class, is_interface, is_public, is_instance, has_array_owner}
+use Rattle.fcg_analysis.specs.NamesAndFlags.{or_else, found_in}
+use Rattle.fcg_analysis.specs.Declarations.{Placed, Signature, signature_in, is_class, is_interface, is_public, is_instance, has_array_owner}
 use Rattle.fcg_analysis.specs.Types.{named, object, has_gap, chain}
 use Rattle.fcg_analysis.specs.Nodes.{Node, declared, one_default, first}
 

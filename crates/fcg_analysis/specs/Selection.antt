@@ -1,8 +1,8 @@
 -- Overriding (JVMS 5.4.5) and selection (JVMS 5.4.6).
 use Rattle.std.specs.Prelude.{ℕ, zero, suc, List, [], Bool, not, ◌&&◌, ◌||◌, Option, Some, None, find, drop, length, if◌then◌else◌}
 use Rattle.std.specs.List.{list_any}
-use Rattle.fcg_analysis.specs.Words.{same, before, package_of, or_else, found_in}
-use Rattle.fcg_analysis.specs.Says.{Placed, Signature, signature_of, has_signature, is_type, is_public, is_protected, is_private, is_package_private, is_instance}
+use Rattle.fcg_analysis.specs.NamesAndFlags.{same, before, package_of, or_else, found_in}
+use Rattle.fcg_analysis.specs.Declarations.{Placed, Signature, signature_of, has_signature, is_type, is_public, is_protected, is_private, is_package_private, is_instance}
 use Rattle.fcg_analysis.specs.Types.{chain}
 use Rattle.fcg_analysis.specs.Nodes.{Node, nodes, one_default}
 use Rattle.fcg_analysis.specs.Resolution.{Outcome, Found, Phantom, Failed}

@@ -2,8 +2,8 @@
 use Rattle.std.specs.Prelude.{ℕ, List, Bool, true, false, not, ◌&&◌, ◌||◌, Option, Some, None, drop, is_none, codes, option_and_then, if◌then◌else◌}
 use Rattle.std.specs.List.{list_any}
 use Rattle.fcg_views.specs.declared.view.Ref.{Ref}
-use Rattle.fcg_analysis.specs.Words.{same, contains, or_else}
-use Rattle.fcg_analysis.specs.Says.{Placed, Signature, signature_in, has_signature, is_named, is_class, is_interface, is_instance, superclass_names}
+use Rattle.fcg_analysis.specs.NamesAndFlags.{same, contains, or_else}
+use Rattle.fcg_analysis.specs.Declarations.{Placed, Signature, signature_in, has_signature, is_named, is_class, is_interface, is_instance, superclass_names}
 use Rattle.fcg_analysis.specs.Types.{named, superclass, line, chain}
 use Rattle.fcg_analysis.specs.Nodes.{Node, one_default}
 use Rattle.fcg_analysis.specs.Resolution.{Outcome, Found, Phantom, Failed, resolved, public_of_object}

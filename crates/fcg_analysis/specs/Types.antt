@@ -1,9 +1,9 @@
 -- Which types a set has, and how they stand to one another.
 use Rattle.std.specs.Prelude.{ℕ, zero, suc, List, [], ◌∷◌, ◌++◌, Bool, not, ◌&&◌, ◌||◌, Option, Some, None, filter, find, length, option_to_list, is_none, if◌then◌else◌}
 use Rattle.std.specs.List.{list_any}
-use Rattle.fcg_analysis.specs.Words.{same, contains}
+use Rattle.fcg_analysis.specs.NamesAndFlags.{same, contains}
 use Rattle.fcg_analysis.specs.Walks.{led_to}
-use Rattle.fcg_analysis.specs.Says.{Placed, object_name, is_named, is_type, is_interface, is_class, is_object, superclass_names, interface_names, names_of}
+use Rattle.fcg_analysis.specs.Declarations.{Placed, object_name, is_named, is_type, is_interface, is_class, is_object, superclass_names, interface_names, names_of}
 
 -- ---- Winner. A view wins where no earlier view has its name.
 

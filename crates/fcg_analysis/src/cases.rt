@@ -7,8 +7,8 @@ ghost use Rattle.fcg_analysis.specs.Nodes.{nodes, identity};
 ghost use Rattle.fcg_analysis.specs.Resolution.{KindMismatch, NoSuchMethod, Failed, Phantom, resolved};
 ghost use Rattle.fcg_analysis.specs.Edges.{IsNoCall, IsMethod, IsPhantom, IsFailed, edges, statuses, phantoms, failed};
 ghost use Rattle.fcg_analysis.specs.Reach.{rows};
-ghost use Rattle.fcg_analysis.specs.Short.{names, names_of_types, names_below, number_in, method_ref, interface_ref};
-ghost use Rattle.fcg_analysis.specs.Sets.{self_call, doubled_class, doubled_class_turned, absent_interface, package_private, two_defaults, default_beside_abstract, default_below, private_and_static, special_super, special_super_moved, logging_set, circular_types, two_chains, lambda, object_present};
+ghost use Rattle.fcg_analysis.specs.Cases.ShortForm.{names, names_of_types, names_below, number_in, method_ref, interface_ref};
+ghost use Rattle.fcg_analysis.specs.Cases.Sets.{self_call, doubled_class, doubled_class_turned, absent_interface, package_private, two_defaults, default_beside_abstract, default_below, private_and_static, special_super, special_super_moved, logging_set, circular_types, two_chains, lambda, object_present};
 
 /// A static method that calls itself: one edge, and it reaches itself in no step.
 pub fn self_call_case()

@@ -2,7 +2,7 @@
 ghost use Rattle.std.specs.Prelude.{◌≡◌, ◌↔◌, ◌<◌, ◌+◌, ℕ, List, ◌∷◌, Contains, find, map, length, IsTrue, Bool, ◌&&◌, ◌||◌, Some, None};
 ghost use Rattle.std.specs.List.{IsDistinct, list_any, range_with_len};
 ghost use Rattle.std.specs.List.Sorted.{IsStrictlySortedBy};
-ghost use Rattle.fcg_analysis.specs.Says.{Placed, Signature, is_named, is_type, is_class, is_interface};
+ghost use Rattle.fcg_analysis.specs.Declarations.{Placed, Signature, is_named, is_type, is_class, is_interface};
 ghost use Rattle.fcg_analysis.specs.Types.{winners, known, named, links, extends, implements, above, line, chain, superclass};
 ghost use Rattle.fcg_analysis.specs.Walks.{Walk};
 ghost use Rattle.fcg_analysis.specs.Nodes.{Node, nodes};

@@ -4,7 +4,7 @@ use Rattle.std.specs.Prelude.{IfSome, IfOk, Result, Ok, Err, OnOk, OnErr}
 use Rattle.std.specs.Io.KnownBytes.{Appends, Consumes, Keeps}
 use Rattle.std.proofs.lemmas.List.{take_at, take-append-drop, append-nil}
 use Rattle.std.proofs.KnownBytes.{Appends-trans, Appends-nil, Appends-kept}
-use Rattle.fcg_bytes.specs.Streams.{Wrote}
+use Rattle.fcg_bytes.specs.Internal.Streams.{Wrote}
 
 pub Wrote-none : (before : Option (List ℕ)) (all : List ℕ) → Wrote before before all all
 Wrote-none before all = record { front = []; parts = refl; taken = Appends-nil before }

@@ -3,4 +3,4 @@ pub mod Files
 pub mod Known
 pub mod Objects
 pub mod Standard
-pub mod Streams
+pub mod Internal

@@ -4,7 +4,7 @@ ghost use Rattle.std.specs.Io.{WritesAtMost};
 ghost use Rattle.std.specs.Io.KnownBytes.{WriteAppends, Appends, Keeps};
 ghost use Rattle.fcg_bytes.specs.Causes.{HasCause};
 ghost use Rattle.fcg_bytes.specs.Objects.{Aside};
-ghost use Rattle.fcg_bytes.specs.Streams.{Wrote};
+ghost use Rattle.fcg_bytes.specs.Internal.Streams.{Wrote};
 
 use crate::Failed;
 

@@ -25,7 +25,7 @@ use Rattle.fcg_class.specs.Path.{is_path, is_class_path}
 use Rattle.fcg_class.specs.Bundle.{Entry, entry, bundle, shown, sites_in, broken, in_entry, held, Begun, body_at, entry_at, entries_of, bundle_of}
 use Rattle.fcg_views.specs.Valid.{is_same}
 use Rattle.fcg_class.specs.Pack.{ArePacked, IsOfContent, bundle_limit}
-use Rattle.fcg_class.specs.Packing.{entry_size}
+use Rattle.fcg_class.specs.Internal.Packing.{entry_size}
 use Rattle.fcg_class.proofs.BundleLaws.{entry_length, path_only, reopened}
 use Rattle.fcg_class.proofs.PackLaws.{differ}
 use Rattle.fcg_class.proofs.PackLemmas.{bundle_size_is, entries_few}

@@ -18,7 +18,7 @@ use Rattle.fcg_views.specs.declared.view.View.{View}
 use Rattle.fcg_class.specs.Path.{is_path}
 use Rattle.fcg_class.specs.Bundle.{Entry, entry, bundle, Content, IsEntryOf, views_of, sites_in}
 use Rattle.fcg_class.specs.Pack.{ArePacked, HoldsIn, ReadsAs, bundle_limit}
-use Rattle.fcg_class.specs.Packing.{entry_size}
+use Rattle.fcg_class.specs.Internal.Packing.{entry_size}
 use Rattle.fcg_class.proofs.BundleLaws.{reopened, short_path}
 use Rattle.fcg_class.proofs.PackLemmas.{bundle_size_is, entries_few}
 

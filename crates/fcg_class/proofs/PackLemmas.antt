@@ -33,7 +33,7 @@ use Rattle.fcg_class.specs.declared.packing.PackedFile.{PackedFile}
 use Rattle.fcg_class.specs.declared.packing.PackRefusal.{PackRefusal}
 use Rattle.fcg_class.specs.declared.packing.PackRefusal.TheVariants as refusals
 use Rattle.fcg_class.specs.Pack.{ArePacked, IsRefusal, bad_path, bundle_limit, checked, entry_in, is_packed, of_paths, pack_of, packed, refusal_of}
-use Rattle.fcg_class.specs.Packing.{AreThere, GivesFile, GivesFiles, bundle_size, entry_of, entry_size, head}
+use Rattle.fcg_class.specs.Internal.Packing.{AreThere, GivesFile, GivesFiles, bundle_size, entry_of, entry_size, head}
 use Rattle.fcg_class.proofs.BundleLaws.{entry_length}
 
 -- ---- sorted texts, each once

@@ -2,4 +2,4 @@ pub mod Path
 pub mod Bundle
 pub mod Entries
 pub mod Pack
-pub mod Packing
+pub mod Internal

@@ -6,7 +6,7 @@ ghost use Rattle.fcg_bytes.specs.Files.{file_at, path_in, texts};
 ghost use Rattle.fcg_grammar.specs.Reading.{seen};
 ghost use Rattle.fcg_class.specs.Bundle.{bundle, entry};
 ghost use Rattle.fcg_class.specs.Pack.{ArePacked, IsRefusal, Writes, bad_path, bundle_limit, entry_in, is_packed, of_paths, pack_of, packed};
-ghost use Rattle.fcg_class.specs.Packing.{AreThere, GivesFile, GivesFiles, bundle_size, entry_of, entry_size, head};
+ghost use Rattle.fcg_class.specs.Internal.Packing.{AreThere, GivesFile, GivesFiles, bundle_size, entry_of, entry_size, head};
 ghost use Rattle.fcg_class.specs.Path.{is_path};
 ghost use Rattle.fcg_class.specs.declared.packing.PackRefusal.TheVariants as refusals;
 

@@ -9,7 +9,7 @@ use Rattle.fcg_grammar.proofs.Standing.{Stands, Stands-then, ok_is}
 use Rattle.fcg_views.specs.declared.view.Field.{Field}
 use Rattle.fcg_classfile.specs.ClassFile.{Constant, attribute, MemberInfo, member_info}
 use Rattle.fcg_views.specs.Descriptor.{IsFieldDescriptor}
-use Rattle.fcg_views.specs.DescSteps.{is_field_descriptor}
+use Rattle.fcg_views.specs.DescriptorSteps.{is_field_descriptor}
 use Rattle.fcg_classfile.specs.Reads.{IsFieldOf}
 use Rattle.fcg_classfile.specs.Breaks.Number.{u2_at}
 use Rattle.fcg_classfile.specs.Breaks.Pool.{Entries}

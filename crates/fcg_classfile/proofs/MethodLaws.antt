@@ -17,7 +17,7 @@ use Rattle.fcg_classfile.specs.ClassFile.{Constant, BootstrapMethod, Attribute, 
 use Rattle.fcg_classfile.specs.Reads.{HasOne, SaysCode, HasCode, IsDeclared, IsMethodOf}
 use Rattle.fcg_classfile.specs.Sites.{Found, nothing, joined, AreSites}
 use Rattle.fcg_views.specs.Descriptor.{IsDescriptor}
-use Rattle.fcg_views.specs.DescSteps.{is_descriptor}
+use Rattle.fcg_views.specs.DescriptorSteps.{is_descriptor}
 use Rattle.fcg_views.specs.Valid.{site_count, is_alike}
 use Rattle.fcg_classfile.specs.Breaks.Fault.{fault}
 use Rattle.fcg_classfile.specs.Breaks.Number.{u2_at}

@@ -20,7 +20,7 @@ use Rattle.fcg_classfile.specs.declared.fault.ClassFault.{ClassFault}
 use Rattle.fcg_classfile.specs.declared.fault.ClassRule.TheVariants.{WrongKind, EmptyName, Descriptor, ManySites}
 use Rattle.fcg_classfile.specs.ClassFile.{is_one_of, Constant}
 use Rattle.fcg_views.specs.Descriptor.{IsDescriptor, IsFieldDescriptor}
-use Rattle.fcg_views.specs.DescSteps.{is_descriptor, is_field_descriptor}
+use Rattle.fcg_views.specs.DescriptorSteps.{is_descriptor, is_field_descriptor}
 use Rattle.fcg_classfile.specs.Instructions.{Form, Fixed, Table, Lookup, Wide, form_of, Instruction, Plain, TableSwitch, LookupSwitch, Widened, instruction, FitsAt, FitFrom}
 use Rattle.fcg_classfile.specs.Sites.{Target, ToMethod, ToField, ToType, SiteForm, site_form, is_dynamic, IsMember, IsType, IsTarget, IsSite, HasIndex, AreFormed, IsCall, AreDynamic, Found, nothing, both, AreOf, AreFound}
 use Rattle.fcg_classfile.specs.Breaks.Fault.{fault, at_place, at_opcode}

@@ -8,4 +8,3 @@ pub mod Limits
 pub mod Among
 pub mod TableLaws
 pub mod ValueRowLaws
-pub mod NthRow

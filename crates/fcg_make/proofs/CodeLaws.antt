@@ -10,7 +10,7 @@ use Rattle.fcg_views.specs.declared.view.SiteKind.{SiteKind}
 use Rattle.fcg_views.specs.declared.view.SiteKind.TheVariants as kinds
 use Rattle.fcg_classfile.specs.ClassFile.{is_one_of}
 use Rattle.fcg_views.specs.Descriptor.{IsDescriptor, IsFieldDescriptor}
-use Rattle.fcg_views.specs.DescSteps.{is_descriptor, is_field_descriptor}
+use Rattle.fcg_views.specs.DescriptorSteps.{is_descriptor, is_field_descriptor}
 use Rattle.fcg_views.proofs.DescLaws.{descriptor_found, field_descriptor_found}
 use Rattle.fcg_classfile.specs.Instructions.{Fixed, form_of, Instruction, FitFrom}
 use Rattle.fcg_classfile.specs.Sites.{ToMethod, ToField, ToType, SiteForm, site_form, is_dynamic, IsMember, IsType, IsTarget, IsSite, HasIndex, AreFormed, IsCall, AreDynamic, Found, nothing, both, AreOf, AreFound}

@@ -22,8 +22,8 @@ use Rattle.fcg_make.specs.Steps.{Step, is_call, is_joined, before, calls, steps_
 use Rattle.fcg_make.specs.Needs.{rows_of}
 use Rattle.fcg_make.specs.Unwritable.{is_placed_from, is_placed_method}
 use Rattle.fcg_make.specs.Layout.{opcode_of, tail_of, operand_of, instruction_of, code_bytes, handle_index, row_of}
-use Rattle.fcg_make.specs.Parts.{rows_part}
-use Rattle.fcg_make.specs.Small.{HasFewHandles}
+use Rattle.fcg_make.specs.Internal.Parts.{rows_part}
+use Rattle.fcg_make.specs.Internal.Small.{HasFewHandles}
 use Rattle.fcg_make.proofs.TableLemmas.{at_bool}
 use Rattle.fcg_make.proofs.StepLemmas.{joined_by}
 use Rattle.fcg_make.proofs.WriteLemmas.{code_first, length_map, rows_part_is}

@@ -8,7 +8,7 @@ use Rattle.fcg_views.specs.declared.view.Site.{Site}
 use Rattle.fcg_classfile.specs.ClassFile.{code_info}
 use Rattle.fcg_classfile.specs.Instructions.{instruction}
 use Rattle.fcg_classfile.specs.Reads.{HasCode, IsCodeOf, IsFieldOf, IsMethodOf}
-use Rattle.fcg_views.specs.DescSteps.{is_descriptor}
+use Rattle.fcg_views.specs.DescriptorSteps.{is_descriptor}
 use Rattle.fcg_views.proofs.DescLaws.{descriptor_found, field_descriptor_found}
 use Rattle.fcg_make.specs.declared.entry.Entry.{Entry}
 use Rattle.fcg_make.specs.declared.entry.Entry.TheVariants.{Text}

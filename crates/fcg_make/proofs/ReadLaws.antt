@@ -20,7 +20,7 @@ use Rattle.fcg_make.specs.Steps.{Step, calls, steps_of, method_rows, numbered}
 use Rattle.fcg_make.specs.Needs.{type_needs, super_needs, field_needs, method_needs, handle, handle_needs, row_needs, rows_of, rows_needs, numbered_methods, needs, pool_of}
 use Rattle.fcg_make.specs.Unwritable.{is_named, is_typed_field, is_typed_method, is_typed, is_kind_method, is_kind, is_placed_method, is_placed, has_room, unwritable}
 use Rattle.fcg_make.specs.Layout.{type_index, super_index, field_of, method_of, handle_index, row_of, class_attributes, file_by, file_of, written_or, written}
-use Rattle.fcg_make.specs.Small.{HasFewHandles, IsFlaggedField, IsFlaggedMethod, IsFlagged}
+use Rattle.fcg_make.specs.Internal.Small.{HasFewHandles, IsFlaggedField, IsFlaggedMethod, IsFlagged}
 use Rattle.fcg_make.specs.Answers.{Answers}
 use Rattle.fcg_make.proofs.WriteLemmas.{length_map, length_numbered}
 use Rattle.fcg_make.proofs.HasLemmas.{Has, constants, index_small, index_some}

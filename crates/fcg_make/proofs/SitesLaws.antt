@@ -12,7 +12,7 @@ use Rattle.fcg_views.specs.declared.view.HandleKind.{HandleKind}
 use Rattle.fcg_views.specs.declared.view.HandleKind.TheVariants.{K5, K6, K7, K8, K9}
 use Rattle.fcg_classfile.specs.ClassFile as file
 use Rattle.fcg_classfile.specs.ClassFile.{is_one_of, Constant, BootstrapMethod}
-use Rattle.fcg_views.specs.DescSteps.{is_descriptor}
+use Rattle.fcg_views.specs.DescriptorSteps.{is_descriptor}
 use Rattle.fcg_classfile.specs.Sites.{ToMethod, Target, SiteForm, IsTarget, handle_form, joined, AreFormedAt, AreOfIndex, AreOfBootstrap, AreOfCall, merged, AreSites}
 use Rattle.fcg_make.specs.declared.entry.Entry.{Entry}
 use Rattle.fcg_make.specs.Entries.{index_of}

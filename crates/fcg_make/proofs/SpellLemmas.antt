@@ -11,7 +11,7 @@ use Rattle.fcg_make.specs.declared.entry.Entry.{Entry}
 use Rattle.fcg_make.specs.Steps.{method_rows}
 use Rattle.fcg_make.specs.Needs.{rows_of, numbered_methods}
 use Rattle.fcg_make.specs.Layout.{constant_of, type_index, super_index, field_of, method_of, class_attributes, file_by}
-use Rattle.fcg_make.specs.Parts.{method_part, class_attributes_part, pool_part, types_part, members_part, file_part}
+use Rattle.fcg_make.specs.Internal.Parts.{method_part, class_attributes_part, pool_part, types_part, members_part, file_part}
 use Rattle.fcg_make.proofs.WriteLemmas.{length_map, length_numbered, flat_same, method_part_is, class_attributes_are}
 use Rattle.fcg_make.proofs.HasLemmas.{IsTagged, slots_of}
 

@@ -9,7 +9,7 @@ use Rattle.fcg_make.specs.contracts.entry.EntryOrd.TheImpl.{ghosts}
 use Rattle.fcg_make.specs.contracts.entry.EntryClone.TheImpl.{by_variants}
 use Rattle.fcg_make.specs.declared.entry.Entry.TheVariants.{Text, Class, Member, Reference, Handle, Dynamic}
 use Rattle.fcg_make.specs.Entries.{is_entry, place_in, added, index_of}
-use Rattle.fcg_make.specs.Places.{ArePlaces}
+use Rattle.fcg_make.specs.Internal.Places.{ArePlaces}
 use Rattle.fcg_make.proofs.EntryLemmas.{entry_is, entry_itself, entry_ties}
 
 -- a copy says the same

@@ -14,7 +14,7 @@ use Rattle.fcg_classfile.specs.Instructions.{instruction}
 use Rattle.fcg_make.specs.declared.entry.Entry.{Entry}
 use Rattle.fcg_make.specs.Steps.{Step, is_handle, is_call, calls, steps_of, row_count, method_rows, size_of, numbered}
 use Rattle.fcg_make.specs.Layout.{nop, instruction_of, instructions_from, code_bytes, text_index, code_attributes, method_of, handle_index, row_of, class_attributes}
-use Rattle.fcg_make.specs.Parts.{with_code, code_part, code_attributes_part, method_part, row_part, rows_part, class_attributes_part}
+use Rattle.fcg_make.specs.Internal.Parts.{with_code, code_part, code_attributes_part, method_part, row_part, rows_part, class_attributes_part}
 use Rattle.fcg_make.proofs.TableLemmas.{at_bool}
 use Rattle.fcg_make.proofs.AddLemmas.{some_steps}
 

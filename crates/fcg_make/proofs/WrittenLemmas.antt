@@ -13,8 +13,8 @@ use Rattle.fcg_make.specs.declared.refusal.NotWritable.TheVariants as refusals
 use Rattle.fcg_make.specs.Needs.{rows_of, needs, pool_of}
 use Rattle.fcg_make.specs.Unwritable.{is_named, is_typed, is_kind, is_placed, has_room, unwritable}
 use Rattle.fcg_make.specs.Layout.{file_of, written}
-use Rattle.fcg_make.specs.Parts.{file_part}
-use Rattle.fcg_make.specs.Small.{IsShortText}
+use Rattle.fcg_make.specs.Internal.Parts.{file_part}
+use Rattle.fcg_make.specs.Internal.Small.{IsShortText}
 use Rattle.fcg_make.proofs.HasLemmas.{IsTagged, all_kept}
 use Rattle.fcg_make.proofs.FactLemmas.{Pieces, of_needs}
 use Rattle.fcg_make.proofs.SoundLemmas.{IsSound, good_view, sound_needs}

@@ -1,11 +1,7 @@
 pub mod Entries
-pub mod Places
 pub mod Steps
 pub mod Needs
 pub mod Unwritable
 pub mod Layout
-pub mod Splits
-pub mod Words
-pub mod Small
-pub mod Parts
 pub mod Answers
+pub mod Internal

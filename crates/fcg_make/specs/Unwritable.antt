@@ -9,7 +9,7 @@ use Rattle.fcg_views.specs.declared.view.SiteKind.{SiteKind}
 use Rattle.fcg_views.specs.declared.view.SiteKind.TheVariants.{Virtual, Interface, Special, Static, New, StaticField, Handle}
 use Rattle.fcg_views.specs.declared.view.HandleKind.{HandleKind}
 use Rattle.fcg_views.specs.declared.view.HandleKind.TheVariants.{K5, K6, K7, K8, K9}
-use Rattle.fcg_views.specs.DescSteps.{is_descriptor, is_field_descriptor}
+use Rattle.fcg_views.specs.DescriptorSteps.{is_descriptor, is_field_descriptor}
 use Rattle.fcg_classfile.specs.Breaks.Groups.{bad_group}
 use Rattle.fcg_make.specs.declared.refusal.NotWritable.{NotWritable}
 use Rattle.fcg_make.specs.declared.refusal.NotWritable.TheVariants as refusals

@@ -6,8 +6,8 @@ ghost use Rattle.fcg_views.specs.Valid.{IsValid};
 ghost use Rattle.fcg_make.specs.Needs.{rows_of, pool_of};
 ghost use Rattle.fcg_make.specs.Unwritable.{is_named, is_typed, is_kind, is_placed, is_placed_method};
 ghost use Rattle.fcg_make.specs.Layout.{written};
-ghost use Rattle.fcg_make.specs.Small.{IsShortText, HasFewHandles, IsFlagged};
-ghost use Rattle.fcg_make.specs.Parts.{pool_part, types_part, members_part, rows_part, file_part};
+ghost use Rattle.fcg_make.specs.Internal.Small.{IsShortText, HasFewHandles, IsFlagged};
+ghost use Rattle.fcg_make.specs.Internal.Parts.{pool_part, types_part, members_part, rows_part, file_part};
 ghost use Rattle.fcg_make.specs.Answers.{Answers};
 
 use crate::check::{is_kind, is_named, is_placed, is_typed};

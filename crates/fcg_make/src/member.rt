@@ -6,8 +6,8 @@ ghost use Rattle.fcg_make.specs.Steps.{calls, steps_of, method_rows, numbered};
 ghost use Rattle.fcg_make.specs.Needs.{rows_of};
 ghost use Rattle.fcg_make.specs.Unwritable.{is_placed_from, is_placed_method};
 ghost use Rattle.fcg_make.specs.Layout.{field_of};
-ghost use Rattle.fcg_make.specs.Small.{HasFewHandles, IsFlaggedField, IsFlaggedMethod};
-ghost use Rattle.fcg_make.specs.Parts.{code_part, code_attributes_part, method_part, row_part, rows_part, class_attributes_part};
+ghost use Rattle.fcg_make.specs.Internal.Small.{HasFewHandles, IsFlaggedField, IsFlaggedMethod};
+ghost use Rattle.fcg_make.specs.Internal.Parts.{code_part, code_attributes_part, method_part, row_part, rows_part, class_attributes_part};
 
 use crate::step::{Step, is_handle, split_step};
 use crate::table::EntryTable;

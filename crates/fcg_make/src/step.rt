@@ -3,7 +3,7 @@ ghost use Rattle.std.specs.Prelude.{◌≡◌, ◌≤◌, ◌<◌, ◌++◌, len
 ghost use Rattle.std.specs.List.{flat_map};
 ghost use Rattle.fcg_make.specs.Steps.{is_handle, is_joined, joined_after, calls, steps_of, size_of};
 ghost use Rattle.fcg_make.specs.Needs.{rows_of};
-ghost use Rattle.fcg_make.specs.Splits.{Splits};
+ghost use Rattle.fcg_make.specs.Internal.Splits.{Splits};
 
 use fcg_views::{Method, Site, SiteKind};
 use std::alloc::{AllocError, Global};

@@ -18,7 +18,7 @@ pub struct EntryTable {
 impl Model for EntryTable {
     ghost use Rattle.std.specs.Prelude.{List};
     ghost use Rattle.fcg_make.specs.declared.entry.Entry.{Entry};
-    ghost use Rattle.fcg_make.specs.Places.{ArePlaces};
+    ghost use Rattle.fcg_make.specs.Internal.Places.{ArePlaces};
 
     ghost Value = { List Entry };
 

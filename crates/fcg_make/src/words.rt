@@ -16,7 +16,7 @@ pub struct Words {
 }
 
 impl Model for Words {
-    ghost use Rattle.fcg_make.specs.Words.{AreWords};
+    ghost use Rattle.fcg_make.specs.Internal.Words.{AreWords};
 
     ghost Value = { Unit {0} };
 

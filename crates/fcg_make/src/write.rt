@@ -8,7 +8,7 @@ ghost use Rattle.fcg_make.specs.declared.entry.Entry.TheVariants as entries;
 ghost use Rattle.fcg_make.specs.Entries.{index_of};
 ghost use Rattle.fcg_make.specs.Steps.{calls, steps_of, row_count, numbered};
 ghost use Rattle.fcg_make.specs.Layout.{constant_of, tail_of, opcode_of, instruction_of, code_bytes, text_index, type_index, super_index, handle_index};
-ghost use Rattle.fcg_make.specs.Small.{IsShortText};
+ghost use Rattle.fcg_make.specs.Internal.Small.{IsShortText};
 
 use crate::entry::Entry;
 use crate::step::{is_handle, size_of, split_step};

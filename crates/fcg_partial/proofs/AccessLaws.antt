@@ -11,12 +11,12 @@ use Rattle.fcg_views.specs.declared.view.View.{View}
 use Rattle.fcg_partial.specs.declared.index.Index.{Index}
 use Rattle.fcg_partial.specs.Fault.{u4_at}
 use Rattle.fcg_partial.specs.Graph.{Graph, IsGraph, StoredType, StoredField, StoredMethod, StoredSite}
-use Rattle.fcg_partial.specs.Views.{graph_of}
+use Rattle.fcg_partial.specs.Views.{graph_of, text_of}
 use Rattle.fcg_partial.specs.Reading.{Begun, ref_at, refs_at, type_at, method_at, views_in}
-use Rattle.fcg_partial.specs.Places.{text_at, HasText, start}
-use Rattle.fcg_partial.specs.Marks.{ReadAt, at_place, at_state, firsts_of, methods_of}
-use Rattle.fcg_partial.specs.Kept.{IsKept, text_of}
-use Rattle.fcg_partial.specs.Told.{HasType, HasMethod, HasRef, IsTypeAt, IsFieldAt, IsMethodAt, IsSiteAt, IsRefAt}
+use Rattle.fcg_partial.specs.Internal.RowPlaces.{text_at, HasText, start}
+use Rattle.fcg_partial.specs.Internal.UsedNumbers.{ReadAt, at_place, at_state, firsts_of, methods_of}
+use Rattle.fcg_partial.specs.Internal.Representation.{IsKept}
+use Rattle.fcg_partial.specs.Accessors.{HasType, HasMethod, HasRef, IsTypeAt, IsFieldAt, IsMethodAt, IsSiteAt, IsRefAt}
 use Rattle.fcg_partial.proofs.GraphLaws.{graph_found}
 use Rattle.fcg_partial.proofs.OneSpelling.{graph_back}
 use Rattle.fcg_partial.proofs.KeptLaws.{kept_text, views_of_read}

@@ -5,7 +5,7 @@ use Rattle.std.specs.List.{flat_map, AllZip}
 use Rattle.fcg_grammar.specs.Rows.{rows}
 use Rattle.fcg_grammar.proofs.RowLemmas.{with_front, rows_go_on, rows_end, rows_done}
 use Rattle.fcg_partial.specs.declared.fault.RecordFault.{RecordFault}
-use Rattle.fcg_partial.specs.Marks.{marked, Marks, ReadAt}
+use Rattle.fcg_partial.specs.Internal.UsedNumbers.{marked, Marks, ReadAt}
 use Rattle.fcg_partial.proofs.MarkLaws.{length_marked, marked_append}
 use Rattle.fcg_partial.proofs.MarkRows.{flat_push}
 

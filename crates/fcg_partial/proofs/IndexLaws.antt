@@ -12,8 +12,8 @@ use Rattle.fcg_partial.specs.declared.fault.RecordFault.{RecordFault}
 use Rattle.fcg_partial.specs.declared.fault.RecordRule.TheVariants.{Trailing}
 use Rattle.fcg_partial.specs.Fault.{fault, u2_at, u4_at}
 use Rattle.fcg_partial.specs.Graph.{Graph, StoredType, type_uses, type_targets, name_uses, ref_uses_of}
-use Rattle.fcg_partial.specs.Marks.{marked, Marked, first_unmarked, refs_read, refs_uses, types_read}
-use Rattle.fcg_partial.specs.Places.{start}
+use Rattle.fcg_partial.specs.Internal.UsedNumbers.{marked, Marked, first_unmarked, refs_read, refs_uses, types_read}
+use Rattle.fcg_partial.specs.Internal.RowPlaces.{start}
 use Rattle.fcg_partial.specs.Reading.{Begun, ref_at, names_at, refs_at, types_at, unused_at, unused_from, name_place, finished, graph_with, graph_at}
 use Rattle.fcg_partial.proofs.MarkLaws.{length_marked, marked_append, marked_is, first_is_unused}
 use Rattle.fcg_partial.proofs.SeenLaws.{seen_ok, seen_err}

@@ -10,9 +10,9 @@ use Rattle.fcg_views.specs.declared.view.View.{View}
 use Rattle.fcg_partial.specs.declared.fault.RecordFault.{RecordFault}
 use Rattle.fcg_partial.specs.declared.index.Index.{Index}
 use Rattle.fcg_partial.specs.Graph.{Graph, IsGraph, spelling}
-use Rattle.fcg_partial.specs.Views.{shown, graph_of}
+use Rattle.fcg_partial.specs.Views.{shown, graph_of, text_of}
 use Rattle.fcg_partial.specs.Reading.{graph_at, views_of_graph, views_in}
-use Rattle.fcg_partial.specs.Kept.{IsKept, text_of}
+use Rattle.fcg_partial.specs.Internal.Representation.{IsKept}
 use Rattle.fcg_grammar.proofs.LawLemmas.{ok_or_err}
 use Rattle.fcg_partial.proofs.OneSpelling.{graph_back}
 use Rattle.fcg_partial.proofs.ViewLaws.{views_back}

@@ -12,7 +12,7 @@ use Rattle.std.specs.BTreeSet.{BTreeSet}
 use Rattle.std.proofs.lemmas.List.Folds.{list_any-append}
 use Rattle.std.proofs.lemmas.List.Concat.{flat_map-cons}
 use Rattle.fcg_partial.specs.Graph.{StoredSite}
-use Rattle.fcg_partial.specs.Marks.{Key, key_cmp, AreKeys, site_target}
+use Rattle.fcg_partial.specs.Internal.UsedNumbers.{Key, key_cmp, AreKeys, site_target}
 
 abbrev pub key_of : ℕ → ℕ → List ℕ
 key_of name desc = name ∷ desc ∷ []

@@ -7,9 +7,8 @@ use Rattle.fcg_views.specs.declared.view.View.{View}
 use Rattle.fcg_views.specs.Valid.{IsValid, name_count}
 use Rattle.fcg_grammar.specs.Table.{Rises, table}
 use Rattle.fcg_partial.specs.Graph.{FitsName, FitsRef, IsGraph}
-use Rattle.fcg_partial.specs.Views.{ref_row, targets_of, names_of, refs_of, graph_of}
+use Rattle.fcg_partial.specs.Views.{ref_row, targets_of, names_of, refs_of, graph_of, text_of}
 use Rattle.fcg_partial.specs.Written.{AreTables, IsSmallView, collected, view_rows, written}
-use Rattle.fcg_partial.specs.Kept.{text_of}
 use Rattle.fcg_grammar.proofs.TableLaws.{table_rises}
 use Rattle.fcg_partial.proofs.SpelledViews.{collected_is, rows_are, written_is}
 use Rattle.fcg_partial.proofs.Counts.{few_names, few_refs, few_views}

@@ -7,7 +7,7 @@ use Rattle.std.proofs.Math.Dec.{eqb-zero-suc, eqb-suc-zero}
 use Rattle.std.proofs.lemmas.Bool.Decides.{nat_tests}
 use Rattle.std.proofs.lemmas.List.{drop_more}
 use Rattle.std.proofs.Math.ListN.{drop_of_length-le}
-use Rattle.fcg_partial.specs.Marks.{marked, first_unmarked}
+use Rattle.fcg_partial.specs.Internal.UsedNumbers.{marked, first_unmarked}
 use Rattle.fcg_partial.specs.Reading.{unused_from}
 
 pub length_marked : (marks : List Bool) (ks : List ℕ) → length (marked marks ks) ≡ length marks

@@ -7,7 +7,7 @@ use Rattle.std.proofs.lemmas.List.Concat.{flat_map-cons}
 use Rattle.fcg_grammar.specs.Rows.{rows}
 use Rattle.fcg_grammar.proofs.RowLemmas.{with_front, rows_go_on, rows_end, rows_done}
 use Rattle.fcg_partial.specs.declared.fault.RecordFault.{RecordFault}
-use Rattle.fcg_partial.specs.Marks.{marked}
+use Rattle.fcg_partial.specs.Internal.UsedNumbers.{marked}
 use Rattle.fcg_partial.proofs.MarkLaws.{length_marked, marked_append}
 
 pub flat_push : {X : Type 0} (f : X → List ℕ) (xs : List X) (x : X) → flat_map f (xs ++ x ∷ []) ≡ flat_map f xs ++ f x

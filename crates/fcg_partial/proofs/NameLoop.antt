@@ -9,7 +9,7 @@ use Rattle.fcg_partial.specs.declared.fault.RecordFault.{RecordFault}
 use Rattle.std.proofs.lemmas.List.{length-take, length-drop}
 use Rattle.fcg_grammar.specs.Number.{u2, part}
 use Rattle.fcg_partial.specs.Reading.{Begun, name_at, name_place}
-use Rattle.fcg_partial.specs.Places.{text_at, HasText, Follow, begun}
+use Rattle.fcg_partial.specs.Internal.RowPlaces.{text_at, HasText, Follow, begun}
 use Rattle.fcg_grammar.proofs.Among.{map_append}
 
 abbrev pub rows_end_at : Result (List (List ℕ) × Begun) RecordFault → Result (List (List ℕ) × ℕ) RecordFault

@@ -3,7 +3,7 @@ use Rattle.std.proofs.Common.{◌≡◌, ℕ, ◌+◌, List, [], ◌∷◌, ◌+
 use Rattle.std.proofs.lemmas.List.{append-nil, length-append}
 use Rattle.std.proofs.lemmas.List.Concat.{flat_map-cons}
 use Rattle.fcg_partial.specs.Graph.{StoredMethod, StoredType}
-use Rattle.fcg_partial.specs.Marks.{firsts_of, methods_of}
+use Rattle.fcg_partial.specs.Internal.UsedNumbers.{firsts_of, methods_of}
 
 pub methods_push : (ts : List StoredType) (t : StoredType) → methods_of (ts ++ t ∷ []) ≡ methods_of ts ++ t.methods
 methods_push [] t = flat_map-cons (λ (u : StoredType). u.methods) t [] ∙ append-nil t.methods

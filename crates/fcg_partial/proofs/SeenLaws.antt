@@ -5,7 +5,7 @@ use Rattle.fcg_grammar.specs.declared.error.ReadError.{ReadError}
 use Rattle.fcg_grammar.specs.declared.error.ReadError.TheVariants as errors
 use Rattle.fcg_grammar.specs.Reading.{Fails, seen}
 use Rattle.fcg_partial.specs.declared.fault.RecordFault.{RecordFault}
-use Rattle.fcg_partial.specs.Marks.{earlier}
+use Rattle.fcg_partial.specs.Internal.UsedNumbers.{earlier}
 use Rattle.fcg_partial.specs.Reading.{Earlier}
 
 pub seen_fails : {X Y : Type 0} (e : ReadError RecordFault) (view : X → Y) (r : Result X RecordFault) → Fails e r → Fails e (seen view r)

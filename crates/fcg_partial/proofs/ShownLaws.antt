@@ -7,8 +7,8 @@ use Rattle.fcg_grammar.proofs.Among.{Among, among_all, among_left, among_right, 
 use Rattle.fcg_views.specs.declared.view.View.{View}
 use Rattle.fcg_partial.specs.Graph.{Graph, StoredType, StoredField, StoredMethod, StoredSite, ref_uses, super_uses, field_uses, method_uses, type_uses, name_uses, method_targets, type_targets, ref_uses_of}
 use Rattle.fcg_partial.specs.Views.{name_in, shown, shown_type, graph_of}
-use Rattle.fcg_partial.specs.Told.{HasType, HasInterface, HasField, HasMethod, HasSite, HasRef}
-use Rattle.fcg_partial.specs.Shown.{AreNames}
+use Rattle.fcg_partial.specs.Accessors.{HasType, HasInterface, HasField, HasMethod, HasSite, HasRef}
+use Rattle.fcg_partial.specs.Internal.NameTable.{AreNames}
 use Rattle.fcg_partial.proofs.ViewLaws.{views_back}
 
 module _ {X : Type 0} where

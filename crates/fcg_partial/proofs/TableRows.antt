@@ -22,7 +22,7 @@ use Rattle.fcg_partial.specs.Fault.{fault, u1_at, u2_at, u4_at, part_at}
 use Rattle.fcg_grammar.specs.Table.{order, Rises}
 use Rattle.fcg_partial.specs.Graph.{number_at, name_text, ref_text, ref_uses, FitsName, FitsRef}
 use Rattle.fcg_partial.specs.Reading.{Begun, is_above, name_at, index_at, flag_at, ref_at, names_at, refs_at}
-use Rattle.fcg_partial.specs.Places.{text_at, HasText}
+use Rattle.fcg_partial.specs.Internal.RowPlaces.{text_at, HasText}
 use Rattle.fcg_grammar.proofs.Among.{all_from_among, among_all}
 
 -- ---- a table's rows: each fits, and is above the one before

@@ -10,7 +10,7 @@ use Rattle.fcg_grammar.specs.Rows.{rows}
 use Rattle.fcg_partial.specs.declared.fault.RecordFault.{RecordFault}
 use Rattle.fcg_partial.specs.Fault.{u2_at}
 use Rattle.fcg_partial.specs.Graph.{StoredField, StoredMethod, StoredType, super_uses, method_uses}
-use Rattle.fcg_partial.specs.Marks.{marked, Marked, marks_of, earlier, one_use, super_read, interfaces_read, interfaces_uses, fields_read, fields_uses, methods_read, PassesMethods, PassesType}
+use Rattle.fcg_partial.specs.Internal.UsedNumbers.{marked, Marked, marks_of, earlier, one_use, super_read, interfaces_read, interfaces_uses, fields_read, fields_uses, methods_read, PassesMethods, PassesType}
 use Rattle.fcg_partial.specs.Reading.{Earlier, index_at, super_at, method_at, type_at}
 use Rattle.fcg_partial.proofs.MarkLaws.{length_marked, marked_append}
 use Rattle.fcg_partial.proofs.SeenLaws.{seen_ok, seen_err}

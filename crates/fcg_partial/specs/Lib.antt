@@ -2,9 +2,6 @@ pub mod Graph
 pub mod Views
 pub mod Fault
 pub mod Reading
-pub mod Places
-pub mod Kept
-pub mod Marks
 pub mod Written
-pub mod Told
-pub mod Shown
+pub mod Accessors
+pub mod Internal

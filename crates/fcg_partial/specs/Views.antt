@@ -7,7 +7,7 @@ use Rattle.fcg_views.specs.declared.view.Field.{Field}
 use Rattle.fcg_views.specs.declared.view.Site.{Site}
 use Rattle.fcg_views.specs.declared.view.Ref.{Ref}
 use Rattle.fcg_grammar.specs.Table.{table, place}
-use Rattle.fcg_partial.specs.Graph.{number_at, Graph, StoredType, StoredField, StoredMethod, StoredSite}
+use Rattle.fcg_partial.specs.Graph.{number_at, spelling, Graph, StoredType, StoredField, StoredMethod, StoredSite}
 
 -- ---- from numbers to names
 abbrev pub name_in : List (List ℕ) → ℕ → List ℕ
@@ -119,3 +119,7 @@ graph_by names refs views = record { names = names; refs = refs; types = map (ty
 -- the stored graph of a list of views
 unfoldable pub graph_of : List View → Graph
 graph_of views = graph_by (names_of views) (refs_of (names_of views) views) views
+
+-- the spelling of a list of views
+unfoldable pub text_of : List View → List ℕ
+text_of views = spelling (graph_of views)

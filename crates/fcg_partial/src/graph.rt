@@ -4,11 +4,10 @@ ghost use Rattle.fcg_grammar.specs.Reading.{seen, Gives};
 ghost use Rattle.fcg_grammar.specs.Spell.{IsBytes};
 ghost use Rattle.fcg_partial.specs.Graph.{Graph, StoredType, StoredField, StoredMethod, StoredSite, IsGraph, spelling};
 ghost use Rattle.fcg_views.specs.Valid.{IsValid, name_count};
-ghost use Rattle.fcg_partial.specs.Views.{shown, graph_of};
+ghost use Rattle.fcg_partial.specs.Views.{shown, graph_of, text_of};
 ghost use Rattle.fcg_partial.specs.Reading.{graph_at};
-ghost use Rattle.fcg_partial.specs.Kept.{text_of};
-ghost use Rattle.fcg_partial.specs.Places.{text_at, HasText};
-ghost use Rattle.fcg_partial.specs.Told.{type_told, field_told, method_told, site_told, ref_told, HasType, HasInterface, HasField, HasMethod, HasSite, HasRef, IsTypeAt, IsMethodAt, IsRefAt};
+ghost use Rattle.fcg_partial.specs.Internal.RowPlaces.{text_at, HasText};
+ghost use Rattle.fcg_partial.specs.Accessors.{type_told, field_told, method_told, site_told, ref_told, HasType, HasInterface, HasField, HasMethod, HasSite, HasRef, IsTypeAt, IsMethodAt, IsRefAt};
 
 use crate::fault::RecordFault;
 use crate::index::{Index, find_rows};
@@ -68,7 +67,7 @@ impl Model for PartialGraph {
     ghost use Rattle.std.specs.Prelude.{List};
     ghost use Rattle.fcg_views.specs.declared.view.View.{View};
     ghost use Rattle.fcg_partial.specs.Reading.{views_in};
-    ghost use Rattle.fcg_partial.specs.Kept.{IsKept};
+    ghost use Rattle.fcg_partial.specs.Internal.Representation.{IsKept};
 
     ghost Value = { List View };
 

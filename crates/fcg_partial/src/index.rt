@@ -2,9 +2,9 @@
 ghost use Rattle.std.specs.Prelude.{◌≡◌, ◌≤◌, ◌<◌, ◌^◌, ◌+◌, ◌*◌, ℕ, List, length, false, map, replicate, IfOk};
 ghost use Rattle.std.specs.List.{AllByRecursion};
 ghost use Rattle.fcg_partial.specs.Reading.{graph_at, unused_at, name_place};
-ghost use Rattle.fcg_partial.specs.Marks.{first_unmarked};
-ghost use Rattle.fcg_partial.specs.Places.{text_at, HasText, Follow};
-ghost use Rattle.fcg_partial.specs.Kept.{GivesIndex, GivesPlaces, HasNames, HasRefs, no_marks};
+ghost use Rattle.fcg_partial.specs.Internal.UsedNumbers.{first_unmarked};
+ghost use Rattle.fcg_partial.specs.Internal.RowPlaces.{text_at, HasText, Follow};
+ghost use Rattle.fcg_partial.specs.Internal.Representation.{GivesIndex, GivesPlaces, HasNames, HasRefs, no_marks};
 
 use crate::fault::{RecordFault, RecordRule, fault_at};
 use crate::marks::find_unmarked;

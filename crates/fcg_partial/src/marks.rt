@@ -1,7 +1,7 @@
 //! Which names and references were used: a mark for each number.
 ghost use Rattle.std.specs.Prelude.{◌≡◌, ◌≤◌, ◌<◌, ◌+◌, length, OnOk, IfOk, IfSome};
 ghost use Rattle.fcg_partial.specs.Reading.{index_at, flag_at};
-ghost use Rattle.fcg_partial.specs.Marks.{first_unmarked, marks_after};
+ghost use Rattle.fcg_partial.specs.Internal.UsedNumbers.{first_unmarked, marks_after};
 
 use crate::fault::{RecordFault, RecordRule, fault_at};
 use crate::number::{read_u1, read_u4};

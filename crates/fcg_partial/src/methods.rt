@@ -1,7 +1,7 @@
 //! The methods of a type, no two of which have one name and descriptor.
 ghost use Rattle.std.specs.Prelude.{◌≡◌, ◌≤◌, ◌<◌, ◌^◌, ◌+◌, ℕ, List, length, IfOk};
 ghost use Rattle.fcg_partial.specs.Reading.{method_at};
-ghost use Rattle.fcg_partial.specs.Marks.{marks_of, AreKeys, PassesMethod, PassesMethods, earlier, methods_read};
+ghost use Rattle.fcg_partial.specs.Internal.UsedNumbers.{marks_of, AreKeys, PassesMethod, PassesMethods, earlier, methods_read};
 
 use crate::fault::{RecordFault, RecordRule, fault_at};
 use crate::marks::read_index;

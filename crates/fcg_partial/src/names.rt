@@ -4,7 +4,7 @@ ghost use Rattle.std.specs.List.{AllByRecursion};
 ghost use Rattle.fcg_grammar.specs.Number.{u2};
 ghost use Rattle.fcg_grammar.specs.Reading.{seen, Gives};
 ghost use Rattle.fcg_partial.specs.Reading.{is_above, name_at, names_at};
-ghost use Rattle.fcg_partial.specs.Places.{text_at, HasText, Follow, begun, of_last, names_read};
+ghost use Rattle.fcg_partial.specs.Internal.RowPlaces.{text_at, HasText, Follow, begun, of_last, names_read};
 
 use crate::fault::{RecordFault, RecordRule, fault_at};
 use crate::number::{read_part, read_u2, read_u4};

@@ -3,8 +3,8 @@ ghost use Rattle.std.specs.Prelude.{◌≡◌, ◌≤◌, ◌+◌, ◌*◌, ℕ,
 ghost use Rattle.fcg_grammar.specs.Reading.{seen};
 ghost use Rattle.fcg_partial.specs.Reading.{ref_at, is_above};
 ghost use Rattle.fcg_partial.specs.Graph.{ref_uses};
-ghost use Rattle.fcg_partial.specs.Marks.{marked, Passes, refs_read, refs_uses};
-ghost use Rattle.fcg_partial.specs.Places.{begun, same_row, start};
+ghost use Rattle.fcg_partial.specs.Internal.UsedNumbers.{marked, Passes, refs_read, refs_uses};
+ghost use Rattle.fcg_partial.specs.Internal.RowPlaces.{begun, same_row, start};
 
 use crate::fault::{RecordFault, RecordRule, fault_at};
 use crate::marks::{read_flag, read_index};

@@ -2,7 +2,7 @@
 ghost use Rattle.std.specs.Prelude.{◌≡◌, ◌<◌, ◌≤◌, ◌+◌, ◌*◌, ◌^◌, ℕ, List, length, Ok};
 ghost use Rattle.fcg_partial.specs.Fault.{u1_at, u2_at, u4_at};
 ghost use Rattle.fcg_partial.specs.Graph.{StoredType, StoredField, StoredMethod, StoredSite};
-ghost use Rattle.fcg_partial.specs.Told.{super_of, type_told, field_told, method_told, site_told, ref_told, IsTypeAt, IsFieldAt, IsMethodAt, IsSiteAt, IsRefAt};
+ghost use Rattle.fcg_partial.specs.Accessors.{super_of, type_told, field_told, method_told, site_told, ref_told, IsTypeAt, IsFieldAt, IsMethodAt, IsSiteAt, IsRefAt};
 
 use crate::number::{read_u1, read_u2, read_u4};
 use crate::rows::{NO_SUPERCLASS, kind_of};

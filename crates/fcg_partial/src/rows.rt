@@ -3,7 +3,7 @@
 ghost use Rattle.std.specs.Prelude.{◌≡◌, ◌≤◌, ◌+◌, ℕ, length, IfOk};
 ghost use Rattle.fcg_partial.specs.Reading.{kind_of, kind_at, site_at, field_at, interface_at};
 ghost use Rattle.fcg_partial.specs.Graph.{super_uses, field_uses};
-ghost use Rattle.fcg_partial.specs.Marks.{Passes, super_read, one_use, interfaces_uses, interfaces_read, fields_uses, fields_read, site_target, sites_targets, sites_read};
+ghost use Rattle.fcg_partial.specs.Internal.UsedNumbers.{Passes, super_read, one_use, interfaces_uses, interfaces_read, fields_uses, fields_read, site_target, sites_targets, sites_read};
 
 use crate::fault::{RecordFault, RecordRule, fault_at};
 use crate::marks::read_index;

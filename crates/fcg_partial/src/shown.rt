@@ -2,8 +2,8 @@
 ghost use Rattle.std.specs.Prelude.{◌≡◌, ◌<◌, ℕ, List, length, map, IfOk, IfSome};
 ghost use Rattle.fcg_partial.specs.Graph.{StoredType, StoredField, StoredMethod, StoredSite};
 ghost use Rattle.fcg_partial.specs.Views.{name_in, super_in, shown_ref, shown_site, shown_field, shown_method, shown_type, graph_of};
-ghost use Rattle.fcg_partial.specs.Told.{HasType, HasInterface, HasField, HasMethod, HasSite, HasRef};
-ghost use Rattle.fcg_partial.specs.Shown.{AreNames};
+ghost use Rattle.fcg_partial.specs.Accessors.{HasType, HasInterface, HasField, HasMethod, HasSite, HasRef};
+ghost use Rattle.fcg_partial.specs.Internal.NameTable.{AreNames};
 
 use crate::graph::PartialGraph;
 use fcg_views::{

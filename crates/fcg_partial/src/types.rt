@@ -1,7 +1,7 @@
 //! The types of a stored graph, with the places of their rows.
 ghost use Rattle.std.specs.Prelude.{◌≡◌, ◌≤◌, ◌<◌, ◌^◌, ◌+◌, ℕ, length, IfOk};
 ghost use Rattle.fcg_partial.specs.Reading.{type_at};
-ghost use Rattle.fcg_partial.specs.Marks.{marks_of, PassesType, PassesTypes, types_read};
+ghost use Rattle.fcg_partial.specs.Internal.UsedNumbers.{marks_of, PassesType, PassesTypes, types_read};
 
 use crate::fault::RecordFault;
 use crate::marks::read_index;

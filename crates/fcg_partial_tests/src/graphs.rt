@@ -1,7 +1,7 @@
 ghost use Rattle.std.specs.Prelude.{◌≡◌, IfSome};
 ghost use Rattle.fcg_partial.specs.Graph.{StoredType, StoredMethod};
 ghost use Rattle.fcg_partial.specs.Views.{graph_of};
-ghost use Rattle.fcg_partial.specs.Told.{type_told, method_told, HasType, HasMethod};
+ghost use Rattle.fcg_partial.specs.Accessors.{type_told, method_told, HasType, HasMethod};
 
 use fcg_grammar::ReadError;
 use fcg_partial::{FieldRow, MethodRow, PartialGraph, RecordRule, RefRow, SiteRow, TypeRow};

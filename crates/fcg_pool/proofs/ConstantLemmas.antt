@@ -11,8 +11,8 @@ use Rattle.fcg_classfile.specs.ClassFile.{Shape, Text, Bytes, One, Two, Kinded, 
 use Rattle.fcg_classfile.specs.Breaks.Groups.{is_single, bad_group}
 use Rattle.fcg_classfile.specs.Breaks.Pool as pool
 use Rattle.fcg_classfile.specs.Breaks.Pool.{grouped, shaped_at, constant_read, slot_at}
-use Rattle.fcg_pool.specs.Standing.{shaped_in, constant_in, slot_in, ShapeLies, Lies}
-use Rattle.fcg_pool.specs.Seen.{start}
+use Rattle.fcg_pool.specs.ConstantAt.{shaped_in, constant_in, slot_in, ShapeLies, Lies}
+use Rattle.fcg_pool.specs.CodeValues.{start}
 use Rattle.fcg_pool.proofs.GroupLemmas.{single_none}
 
 u1_is : {E : Type 0} (cut : E) (bytes : List ℕ) (at n : ℕ) → u1_at cut bytes at ≡ Ok n → (at + 1 ≤ length bytes) × (get_or bytes at 0 ≡ n)

@@ -11,7 +11,7 @@ use Rattle.fcg_classfile.specs.Instructions.{Form, form_of, Fixed}
 use Rattle.fcg_classfile.specs.Sites.{SiteForm, site_form, is_dynamic}
 use Rattle.fcg_classfile.specs.Breaks.Instructions.{passed, formed_at, next_at}
 use Rattle.fcg_classfile.proofs.InstructionPlaces.{next_at_is}
-use Rattle.fcg_pool.specs.Layout.{form_told}
+use Rattle.fcg_pool.specs.Internal.Layout.{form_told}
 use Rattle.fcg_pool.specs.declared.instruction.TheConstants.{LAYOUTS}
 
 all_told : map form_told LAYOUTS ≡ map form_of (range_with_len 0 256)

@@ -6,7 +6,7 @@ use Rattle.fcg_grammar.specs.Number.{u2, part}
 use Rattle.fcg_classfile.specs.declared.fault.PoolRule.TheVariants.{WrongKind}
 use Rattle.fcg_classfile.specs.ClassFile.{Shape, Text, Bytes, One, Two, Kinded, is_one_of, shape_of, tag_of}
 use Rattle.fcg_classfile.specs.Breaks.Pool.{text_in, name_in, pair_in}
-use Rattle.fcg_pool.specs.Standing.{shaped_in, constant_in, ShapeLies, Lies}
+use Rattle.fcg_pool.specs.ConstantAt.{shaped_in, constant_in, ShapeLies, Lies}
 
 -- ---- the tags of two shapes
 

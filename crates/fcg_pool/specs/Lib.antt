@@ -1,4 +1,3 @@
-pub mod Entry
-pub mod Standing
-pub mod Seen
-pub mod Layout
+pub mod ConstantAt
+pub mod CodeValues
+pub mod Internal

@@ -5,9 +5,9 @@ ghost use Rattle.fcg_grammar.specs.Number.{u2, part};
 ghost use Rattle.fcg_classfile.specs.ClassFile as file;
 ghost use Rattle.fcg_classfile.specs.ClassFile.{is_one_of, tag_of, is_wide};
 ghost use Rattle.fcg_classfile.specs.Breaks.Pool.{shaped_at, constant_read, text_in, name_in, pair_in};
-ghost use Rattle.fcg_pool.specs.Entry.{shape_seen, constant_seen};
-ghost use Rattle.fcg_pool.specs.Seen.{indexes_of};
-ghost use Rattle.fcg_pool.specs.Standing.{shaped_in, constant_in, ShapeLies, Lies};
+ghost use Rattle.fcg_pool.specs.Internal.Entry.{shape_seen, constant_seen};
+ghost use Rattle.fcg_pool.specs.CodeValues.{indexes_of};
+ghost use Rattle.fcg_pool.specs.ConstantAt.{shaped_in, constant_in, ShapeLies, Lies};
 
 use crate::check::is_one_of;
 use crate::groups::find_bad_group;

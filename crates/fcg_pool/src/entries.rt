@@ -3,8 +3,8 @@ ghost use Rattle.std.specs.Prelude.{◌≡◌, ℕ, ◌≤◌, ◌-◌, length, 
 ghost use Rattle.fcg_grammar.specs.Reading.{seen, Gives};
 ghost use Rattle.fcg_grammar.specs.Rows.{rows};
 ghost use Rattle.fcg_classfile.specs.Breaks.Pool.{slot_at};
-ghost use Rattle.fcg_pool.specs.Standing.{slot_in, Lies, IsInside, IsPool};
-ghost use Rattle.fcg_pool.specs.Seen.{next_of, start};
+ghost use Rattle.fcg_pool.specs.ConstantAt.{slot_in, Lies, IsInside, IsPool};
+ghost use Rattle.fcg_pool.specs.CodeValues.{next_of, start};
 
 use crate::constant::{part_in, read_constant, u2_in};
 use crate::groups::are_single;

@@ -4,7 +4,7 @@ ghost use Rattle.fcg_grammar.specs.Reading.{seen};
 ghost use Rattle.fcg_classfile.specs.Instructions.{form_of, wide_of, moved_up, pad_of};
 ghost use Rattle.fcg_classfile.specs.Sites.{site_form, is_dynamic};
 ghost use Rattle.fcg_classfile.specs.Breaks.Instructions.{passed, table_at, lookup_at, wide_at, formed_at, next_at, operand_in, operand_at};
-ghost use Rattle.fcg_pool.specs.Layout.{form_seen, form_told};
+ghost use Rattle.fcg_pool.specs.Internal.Layout.{form_seen, form_told};
 ghost use Rattle.fcg_pool.specs.declared.instruction.TheConstants.{LAYOUTS};
 
 use fcg_classfile::CodeRule;

@@ -10,7 +10,7 @@ use Rattle.fcg_classfile.specs.Breaks.Fault.{fault}
 use Rattle.fcg_classfile.specs.Breaks.Pool.{Entries}
 use Rattle.fcg_views.specs.Valid.{is_same}
 use Rattle.fcg_classfile.specs.Breaks.Attributes.{up_to, text_at, content_at, OneBegun, one_read_at, other_at, one_at}
-use Rattle.fcg_reader.specs.Attributes.{begun_one}
+use Rattle.fcg_reader.specs.Internal.Attributes.{begun_one}
 
 -- whether it has the name, and the place after it
 abbrev with_place : Bool → ℕ → Result (Bool × ℕ) ClassFault

@@ -4,7 +4,7 @@ use Rattle.std.specs.Prelude.{Option, Some, None, is_some}
 use Rattle.std.specs.Global.{Vec}
 use Rattle.std.proofs.lemmas.Option.{none-some}
 use Rattle.fcg_classfile.specs.ClassFile.{BootstrapMethod}
-use Rattle.fcg_reader.specs.Class.{rows_said, rows_seen}
+use Rattle.fcg_reader.specs.Internal.Class.{rows_said, rows_seen}
 
 -- one was read wherever it is said to stand
 pub some_said : (read : Option (ℕ × List BootstrapMethod)) (found : Option (Vec BootstrapMethod)) → rows_said read ≡ rows_seen found → is_some found ≡ is_some read

@@ -15,7 +15,7 @@ use Rattle.std.proofs.lemmas.List.{get_or-set_other}
 use Rattle.fcg_classfile.specs.Breaks.Pool.{Entries, text_of}
 use Rattle.fcg_grammar.proofs.Standing.{ok_is}
 use Rattle.fcg_classfile.proofs.WordLaws.{same_text}
-use Rattle.fcg_reader.specs.Firsts.{Known, text_cmp, first_in, Adds, AreKnown, Grows, AreFirsts}
+use Rattle.fcg_reader.specs.Internal.FirstIndexes.{Known, text_cmp, first_in, Adds, AreKnown, Grows, AreFirsts}
 
 pub some_is : (a b : ℕ) → Some a ≡ Some b → a ≡ b
 some_is a b e = cc

@@ -22,7 +22,7 @@ use Rattle.fcg_classfile.specs.declared.fault.ClassFault.{ClassFault}
 use Rattle.fcg_classfile.specs.declared.fault.PoolRule.{PoolRule}
 use Rattle.fcg_classfile.specs.declared.fault.ClassRule.TheVariants.{WrongKind, EmptyName, Descriptor, ManySites, Bootstrap}
 use Rattle.fcg_classfile.specs.ClassFile.{is_one_of, Constant, Utf8, Plain, Named, Pair, Handle, BootstrapMethod}
-use Rattle.fcg_views.specs.DescSteps.{is_descriptor, is_field_descriptor}
+use Rattle.fcg_views.specs.DescriptorSteps.{is_descriptor, is_field_descriptor}
 use Rattle.fcg_classfile.specs.Sites.{Target, ToMethod, ToField, ToType, SiteForm, handle_form, joined, merged}
 use Rattle.fcg_classfile.specs.Breaks.Fault.{fault, rule_of, at_place}
 use Rattle.fcg_classfile.specs.Breaks.Pool.{Entries, constant_of, reference_of, name_of, text_of, handle_in}
@@ -30,8 +30,8 @@ use Rattle.fcg_classfile.specs.Breaks.Names.{type_of}
 use Rattle.fcg_classfile.specs.Breaks.Code.{member_of, target_of, site_of}
 use Rattle.fcg_classfile.specs.Breaks.Bootstrap.{formed_sites, constant_sites, index_sites, row_sites, call_sites}
 use Rattle.fcg_classfile.specs.Breaks.Members.{Unfinished, finished}
-use Rattle.fcg_pool.specs.Seen.{handle_indexes_in, handle_indexes_of}
-use Rattle.fcg_reader.specs.Handles.{BootstrapsIn, bootstraps, moved, moved_at, all_moved_at, AreSitesOf, AreKept, IsKept, counted, all_joined, is_second, GivesMore}
+use Rattle.fcg_pool.specs.CodeValues.{handle_indexes_in, handle_indexes_of}
+use Rattle.fcg_reader.specs.Internal.Handles.{BootstrapsIn, bootstraps, moved, moved_at, all_moved_at, AreSitesOf, AreKept, IsKept, counted, all_joined, is_second, GivesMore}
 
 -- ---- a loop over a list
 

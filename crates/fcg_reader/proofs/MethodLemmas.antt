@@ -13,7 +13,7 @@ use Rattle.std.proofs.lemmas.List.{map-append}
 use Rattle.std.proofs.lemmas.List.Folds.{list_any-append}
 use Rattle.std.proofs.lemmas.List.Sums.{sum_by_push}
 use Rattle.fcg_views.specs.declared.view.Method.{Method}
-use Rattle.fcg_views.specs.DescSteps.{is_descriptor}
+use Rattle.fcg_views.specs.DescriptorSteps.{is_descriptor}
 use Rattle.fcg_views.specs.Valid.{site_count}
 use Rattle.fcg_grammar.specs.declared.error.ReadError.{ReadError}
 use Rattle.fcg_grammar.specs.declared.error.ReadError.TheVariants as errors
@@ -28,11 +28,11 @@ use Rattle.fcg_classfile.specs.Breaks.Pool.{Entries}
 use Rattle.fcg_classfile.specs.Breaks.Attributes.{OneBegun, ones_at}
 use Rattle.fcg_classfile.specs.Breaks.Code.{code_at}
 use Rattle.fcg_classfile.specs.Breaks.Members.{Declared, Unfinished, Begun, unfinished, declared_at, method_at}
-use Rattle.fcg_reader.specs.Members.{begun, GivesNext}
+use Rattle.fcg_reader.specs.Internal.Members.{begun, GivesNext}
 use Rattle.fcg_classfile.proofs.WordLaws.{same_text}
 use Rattle.fcg_reader.proofs.FirstLemmas.{same_first, one_text, at_bool, both_equal}
-use Rattle.fcg_reader.specs.Firsts.{Known, first_in, AreKnown, Grows, AreAsked}
-use Rattle.fcg_reader.specs.Methods.{Signature, signature_cmp, is_signature, methods_of, has_both, AreSignatures, AreOfTexts, AllOfTexts, IsTable}
+use Rattle.fcg_reader.specs.Internal.FirstIndexes.{Known, first_in, AreKnown, Grows, AreAsked}
+use Rattle.fcg_reader.specs.Internal.Methods.{Signature, signature_cmp, is_signature, methods_of, has_both, AreSignatures, AreOfTexts, AllOfTexts, IsTable}
 
 -- ---- the map of the first indexes grows
 

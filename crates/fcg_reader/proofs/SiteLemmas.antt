@@ -3,7 +3,7 @@ use Rattle.std.proofs.Common.{◌≡◌, ℕ, zero, suc, ◌+◌, List, [], ◌�
 use Rattle.std.specs.Prelude.{Bool, true, false, Option, Some, None, Result, Ok, if◌then◌else◌}
 use Rattle.fcg_grammar.specs.Reading.{◌>>=◌}
 use Rattle.fcg_classfile.specs.declared.fault.ClassFault.{ClassFault}
-use Rattle.fcg_views.specs.DescSteps.{is_descriptor, is_field_descriptor}
+use Rattle.fcg_views.specs.DescriptorSteps.{is_descriptor, is_field_descriptor}
 use Rattle.fcg_classfile.specs.Sites.{Target, ToMethod, ToField, ToType, SiteForm, site_form, is_dynamic, Found, nothing, both}
 use Rattle.fcg_classfile.specs.Breaks.Fault.{at_opcode}
 use Rattle.fcg_classfile.specs.Breaks.Instructions.{operand_at, next_at}

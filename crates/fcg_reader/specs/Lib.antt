@@ -1,9 +1,1 @@
-pub mod Firsts
-pub mod Names
-pub mod Attributes
-pub mod Calls
-pub mod Methods
-pub mod Members
-pub mod Class
-pub mod Sites
-pub mod Handles
+pub mod Internal

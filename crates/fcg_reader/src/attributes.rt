@@ -5,7 +5,7 @@ ghost use Rattle.fcg_grammar.specs.Rows.{rows, ended};
 ghost use Rattle.fcg_classfile.specs.Breaks.Pool.{Entries};
 ghost use Rattle.fcg_views.specs.Valid.{is_same};
 ghost use Rattle.fcg_classfile.specs.Breaks.Attributes.{over, content_at, attribute_at, attributes_at};
-ghost use Rattle.fcg_reader.specs.Attributes.{begun_one};
+ghost use Rattle.fcg_reader.specs.Internal.Attributes.{begun_one};
 
 use crate::number::{read_part, read_u2, read_u4};
 use crate::text::find_text;

@@ -1,6 +1,6 @@
 //! The calls of bootstrap methods that the code of a method has (JVMS 6.5, `invokedynamic`).
 ghost use Rattle.std.specs.Prelude.{◌≡◌, []};
-ghost use Rattle.fcg_reader.specs.Calls.{ArePlaced};
+ghost use Rattle.fcg_reader.specs.Internal.Calls.{ArePlaced};
 
 use fcg_classfile::DynamicCall;
 use fcg_views::Method;
@@ -19,7 +19,7 @@ pub type Unfinished = (Method, CodeCalls);
 
 impl Model for CodeCalls {
     ghost use Rattle.fcg_classfile.specs.Breaks.Members.{Calls};
-    ghost use Rattle.fcg_reader.specs.Calls.{ArePlaced};
+    ghost use Rattle.fcg_reader.specs.Internal.Calls.{ArePlaced};
 
     ghost Value = { Calls };
 

@@ -11,7 +11,7 @@ ghost use Rattle.fcg_classfile.specs.Reads.{Reads};
 ghost use Rattle.fcg_classfile.specs.Breaks.Fault.{in_pool};
 ghost use Rattle.fcg_classfile.specs.Breaks.Pool.{pool_at};
 ghost use Rattle.fcg_classfile.specs.Breaks.Class.{header_kept, type_at, super_at, interface_at, interfaces_at, rows_or_none, members_at, body_at, shown, class_of};
-ghost use Rattle.fcg_reader.specs.Class.{rows_said, rows_seen, class_begun, rows_ended, GivesRows};
+ghost use Rattle.fcg_reader.specs.Internal.Class.{rows_said, rows_seen, class_begun, rows_ended, GivesRows};
 
 use crate::attributes::begin_one;
 use crate::bootstrap::{Row, read_rows};

@@ -6,7 +6,7 @@ ghost use Rattle.fcg_classfile.specs.Breaks.Fault.{at_opcode};
 ghost use Rattle.fcg_classfile.specs.Breaks.Instructions.{next_at, operand_at};
 ghost use Rattle.fcg_classfile.specs.Breaks.Attributes.{over};
 ghost use Rattle.fcg_classfile.specs.Breaks.Code.{found_of, handler_at, handlers_at, code_at};
-ghost use Rattle.fcg_reader.specs.Calls.{ArePlaced};
+ghost use Rattle.fcg_reader.specs.Internal.Calls.{ArePlaced};
 
 use crate::attributes::pass_attributes;
 use crate::calls::CodeCalls;
@@ -31,7 +31,7 @@ pub struct MethodCode {
 impl Model for MethodCode {
     ghost use Rattle.std.specs.Prelude.{ℕ, ◌≤◌};
     ghost use Rattle.fcg_classfile.specs.Sites.{Found};
-    ghost use Rattle.fcg_reader.specs.Calls.{code_in};
+    ghost use Rattle.fcg_reader.specs.Internal.Calls.{code_in};
 
     ghost Value = { ℕ × Found };
 

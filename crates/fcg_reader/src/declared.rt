@@ -2,8 +2,8 @@
 ghost use Rattle.std.specs.Prelude.{◌≡◌, ◌≤◌, ◌+◌, length, OnOk, IfOk};
 ghost use Rattle.fcg_grammar.specs.Reading.{seen};
 ghost use Rattle.fcg_classfile.specs.Breaks.Members.{declared_at};
-ghost use Rattle.fcg_reader.specs.Names.{is_of_kind};
-ghost use Rattle.fcg_reader.specs.Members.{declared_of, AreTextsOf};
+ghost use Rattle.fcg_reader.specs.Internal.Names.{is_of_kind};
+ghost use Rattle.fcg_reader.specs.Internal.Members.{declared_of, AreTextsOf};
 
 use crate::names::{ClassNames, DescKind};
 use crate::number::read_u2;

@@ -3,7 +3,7 @@ ghost use Rattle.std.specs.Prelude.{◌≡◌, ◌≤◌, ℕ, length, IfOk};
 ghost use Rattle.fcg_grammar.specs.Reading.{Gives};
 ghost use Rattle.fcg_grammar.specs.Rows.{rows};
 ghost use Rattle.fcg_classfile.specs.Breaks.Members.{field_of, field_at, fields_at};
-ghost use Rattle.fcg_reader.specs.Members.{declared_of, AreTextsOf};
+ghost use Rattle.fcg_reader.specs.Internal.Members.{declared_of, AreTextsOf};
 
 use crate::attributes::pass_attributes;
 use crate::declared::{Declared, find_declared};

@@ -6,7 +6,7 @@ ghost use Rattle.fcg_grammar.specs.Rows.{carried};
 ghost use Rattle.fcg_classfile.specs.Sites.{merged};
 ghost use Rattle.fcg_classfile.specs.Breaks.Members.{finished, all_finished};
 ghost use Rattle.fcg_classfile.specs.Breaks.Bootstrap.{call_sites};
-ghost use Rattle.fcg_reader.specs.Handles.{counted, all_joined, is_second};
+ghost use Rattle.fcg_reader.specs.Internal.Handles.{counted, all_joined, is_second};
 
 use crate::bootstrap::Row;
 use crate::calls::{CodeCalls, Unfinished};

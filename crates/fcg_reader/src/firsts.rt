@@ -3,7 +3,7 @@ ghost use Rattle.std.specs.Prelude.{◌≡◌, ℕ, List, IfOk, OnErr, Ok, Some,
 ghost use Rattle.std.specs.Option.{unwrap_or};
 ghost use Rattle.std.specs.BTreeMap.{IsEmpty};
 ghost use Rattle.fcg_classfile.specs.Breaks.Pool.{text_of};
-ghost use Rattle.fcg_reader.specs.Firsts.{first_in, Adds, Grows, AreAsked, AllUnasked};
+ghost use Rattle.fcg_reader.specs.Internal.FirstIndexes.{first_in, Adds, Grows, AreAsked, AllUnasked};
 
 use fcg_pool::{Pool, Text};
 use std::alloc::{AllocError, Global};

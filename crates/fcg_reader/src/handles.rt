@@ -4,8 +4,8 @@ ghost use Rattle.fcg_grammar.specs.Reading.{seen, Gives};
 ghost use Rattle.fcg_classfile.specs.Sites.{handle_form};
 ghost use Rattle.fcg_classfile.specs.Breaks.Pool.{Entries};
 ghost use Rattle.fcg_classfile.specs.Breaks.Bootstrap.{index_sites, row_sites, call_sites};
-ghost use Rattle.fcg_reader.specs.Sites.{form_seen};
-ghost use Rattle.fcg_reader.specs.Handles.{site_list, bootstraps, moved, all_moved_at, counted, IsKept, GivesMore};
+ghost use Rattle.fcg_reader.specs.Internal.Sites.{form_seen};
+ghost use Rattle.fcg_reader.specs.Internal.Handles.{site_list, bootstraps, moved, all_moved_at, counted, IsKept, GivesMore};
 
 use crate::bootstrap::Row;
 use crate::names::ClassNames;
@@ -187,7 +187,7 @@ pub struct Bootstraps<'a> {
 }
 
 impl<'a> Model for Bootstraps<'a> {
-    ghost use Rattle.fcg_reader.specs.Handles.{BootstrapsIn, bootstraps, AreKept};
+    ghost use Rattle.fcg_reader.specs.Internal.Handles.{BootstrapsIn, bootstraps, AreKept};
 
     ghost Value = { BootstrapsIn };
 

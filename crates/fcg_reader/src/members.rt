@@ -6,8 +6,8 @@ ghost use Rattle.fcg_classfile.specs.declared.fault.ClassRule.TheVariants.{Doubl
 ghost use Rattle.fcg_classfile.specs.Breaks.Attributes.{one_at, ones_at};
 ghost use Rattle.fcg_classfile.specs.Breaks.Code.{code_at};
 ghost use Rattle.fcg_classfile.specs.Breaks.Members.{unfinished, method_at, methods_at};
-ghost use Rattle.fcg_reader.specs.Calls.{parts_of};
-ghost use Rattle.fcg_reader.specs.Members.{declared_of, AreTextsOf, GivesNext, begun, code_begun, code_sites};
+ghost use Rattle.fcg_reader.specs.Internal.Calls.{parts_of};
+ghost use Rattle.fcg_reader.specs.Internal.Members.{declared_of, AreTextsOf, GivesNext, begun, code_begun, code_sites};
 
 use crate::attributes::begin_one;
 use crate::calls::{CodeCalls, Unfinished};

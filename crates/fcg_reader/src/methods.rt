@@ -3,7 +3,7 @@ ghost use Rattle.std.specs.Prelude.{◌≡◌, ◌≤◌, ◌+◌, ◌++◌, ◌
 ghost use Rattle.std.specs.List.{list_any};
 ghost use Rattle.fcg_classfile.specs.Breaks.Pool.{text_of};
 ghost use Rattle.fcg_views.specs.Valid.{site_count};
-ghost use Rattle.fcg_reader.specs.Methods.{is_signature, methods_of};
+ghost use Rattle.fcg_reader.specs.Internal.Methods.{is_signature, methods_of};
 
 use crate::calls::Unfinished;
 use crate::firsts::FirstTexts;
@@ -26,7 +26,7 @@ pub struct MethodTable<'a> {
 }
 
 impl<'a> Model for MethodTable<'a> {
-    ghost use Rattle.fcg_reader.specs.Methods.{Table, IsTable};
+    ghost use Rattle.fcg_reader.specs.Internal.Methods.{Table, IsTable};
 
     ghost Value = { Table };
 

@@ -1,8 +1,8 @@
 //! The texts of a class file: the names of all share one copy of its bytes, and a descriptor is read once.
 ghost use Rattle.std.specs.Prelude.{◌≡◌, Ok, IfOk, []};
 ghost use Rattle.fcg_classfile.specs.Breaks.Pool.{text_of};
-ghost use Rattle.fcg_pool.specs.Seen.{IsTextOf};
-ghost use Rattle.fcg_reader.specs.Names.{AllUntyped, is_of_kind, descs};
+ghost use Rattle.fcg_pool.specs.CodeValues.{IsTextOf};
+ghost use Rattle.fcg_reader.specs.Internal.Names.{AllUntyped, is_of_kind, descs};
 
 use fcg_pool::{Pool, Text};
 use fcg_views::{Name, NoMemory, read_descriptor, read_field_descriptor};
@@ -31,7 +31,7 @@ pub struct ClassNames<'a> {
 
 impl<'a> Model for ClassNames<'a> {
     ghost use Rattle.fcg_classfile.specs.Breaks.Pool.{Entries};
-    ghost use Rattle.fcg_reader.specs.Names.{IsKnown};
+    ghost use Rattle.fcg_reader.specs.Internal.Names.{IsKnown};
 
     ghost Value = { Entries };
 
@@ -102,7 +102,7 @@ struct FoundDescs<'a> {
 }
 
 impl<'a> Model for FoundDescs<'a> {
-    ghost use Rattle.fcg_reader.specs.Names.{Descs, descs, AreTyped};
+    ghost use Rattle.fcg_reader.specs.Internal.Names.{Descs, descs, AreTyped};
 
     ghost Value = { Descs };
 

@@ -5,10 +5,10 @@ ghost use Rattle.fcg_grammar.specs.Reading.{seen, Gives};
 ghost use Rattle.fcg_classfile.specs.Sites.{ToType, site_form, is_dynamic};
 ghost use Rattle.fcg_classfile.specs.Breaks.Instructions.{operand_at};
 ghost use Rattle.fcg_classfile.specs.Breaks.Code.{member_of, target_of, site_of, found_at};
-ghost use Rattle.fcg_pool.specs.Seen.{AreRefTexts};
-ghost use Rattle.fcg_reader.specs.Names.{is_of_kind};
-ghost use Rattle.fcg_reader.specs.Calls.{ArePlaced};
-ghost use Rattle.fcg_reader.specs.Sites.{GivesFound, form_in, form_seen, target_in, ref_of};
+ghost use Rattle.fcg_pool.specs.CodeValues.{AreRefTexts};
+ghost use Rattle.fcg_reader.specs.Internal.Names.{is_of_kind};
+ghost use Rattle.fcg_reader.specs.Internal.Calls.{ArePlaced};
+ghost use Rattle.fcg_reader.specs.Internal.Sites.{GivesFound, form_in, form_seen, target_in, ref_of};
 
 use crate::names::{ClassNames, DescKind};
 use crate::text::find_type_of;

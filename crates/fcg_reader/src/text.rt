@@ -1,7 +1,7 @@
 //! Texts that the items of a class file name.
 ghost use Rattle.std.specs.Prelude.{◌≡◌, ◌≤◌, ◌+◌, length, OnOk, IfOk};
 ghost use Rattle.fcg_grammar.specs.Reading.{seen};
-ghost use Rattle.fcg_pool.specs.Seen.{IsTextOf};
+ghost use Rattle.fcg_pool.specs.CodeValues.{IsTextOf};
 ghost use Rattle.fcg_classfile.specs.Breaks.Names.{type_of};
 ghost use Rattle.fcg_classfile.specs.Breaks.Attributes.{over, text_at};
 ghost use Rattle.fcg_classfile.specs.Breaks.Class.{type_at};

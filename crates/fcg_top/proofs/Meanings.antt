@@ -13,7 +13,7 @@ use Rattle.fcg_class.specs.Bundle.{Content, is_jar, bundle_of}
 use Rattle.fcg_top.specs.declared.words.Listing.{Listing}
 use Rattle.fcg_class.specs.Pack.{bundle_limit}
 use Rattle.fcg_top.specs.Answer.{IsMeant}
-use Rattle.fcg_top.specs.Stopped.{stop_of_bundle}
+use Rattle.fcg_top.specs.Internal.Stopped.{stop_of_bundle}
 
 -- what holds of all bytes that were read holds of those that were left
 pub read_to_end : (P : List ℕ → Type 0) (before now : Option (List ℕ)) (bytes : List ℕ) → Consumes before now bytes → IsAtEnd now → P bytes → IfSome before P

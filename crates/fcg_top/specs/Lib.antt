@@ -3,4 +3,4 @@ pub mod Status
 pub mod Text
 pub mod Refused
 pub mod Answer
-pub mod Stopped
+pub mod Internal

@@ -97,7 +97,7 @@ impl From<NoMemory> for Stop {
 
 impl From<ReadAllRefusal> for Stop {
     ghost use Rattle.std.specs.Prelude.{◌≡◌};
-    ghost use Rattle.fcg_top.specs.Stopped.{stop_of_read};
+    ghost use Rattle.fcg_top.specs.Internal.Stopped.{stop_of_read};
 
     ghost from_gives = { λ refusal e. e ≡ stop_of_read refusal };
 
@@ -112,7 +112,7 @@ impl From<ReadAllRefusal> for Stop {
 
 impl From<ReadError<BundleFault>> for Stop {
     ghost use Rattle.std.specs.Prelude.{◌≡◌};
-    ghost use Rattle.fcg_top.specs.Stopped.{stop_of_bundle};
+    ghost use Rattle.fcg_top.specs.Internal.Stopped.{stop_of_bundle};
 
     ghost from_gives = { λ error e. e ≡ stop_of_bundle error };
 
@@ -140,7 +140,7 @@ impl From<ReadError<BundleFault>> for Stop {
 
 impl From<PackRefusal> for Stop {
     ghost use Rattle.std.specs.Prelude.{◌≡◌};
-    ghost use Rattle.fcg_top.specs.Stopped.{stop_of_pack};
+    ghost use Rattle.fcg_top.specs.Internal.Stopped.{stop_of_pack};
 
     ghost from_gives = { λ refusal e. e ≡ stop_of_pack refusal };
 

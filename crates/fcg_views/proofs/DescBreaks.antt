@@ -6,7 +6,7 @@ use Rattle.fcg_views.specs.declared.descriptor.DescSpan.{DescSpan}
 use Rattle.fcg_views.specs.declared.descriptor.DescFault.{DescFault}
 use Rattle.fcg_views.specs.declared.descriptor.DescState.{DescState}
 use Rattle.fcg_views.specs.declared.descriptor.DescState.TheVariants.{Start, Parameters, Array, Name, Returned, ReturnedArray, ReturnedName, Done}
-use Rattle.fcg_views.specs.DescSteps.{taken, step, closed, goes, scan_from, ended, told, descriptor_of, fault_at}
+use Rattle.fcg_views.specs.DescriptorSteps.{taken, step, closed, goes, scan_from, ended, told, descriptor_of, fault_at}
 use Rattle.fcg_views.specs.Descriptor.{IsDescriptor, IsFront, BreaksAt, Spans, FaultOf, FaultAt, is_letter, letter_units}
 use Rattle.fcg_views.proofs.DescRuns.{run, run-append, run_spelled, taken_fits}
 use Rattle.fcg_views.proofs.DescFound.{found, run_none}

@@ -13,7 +13,7 @@ use Rattle.fcg_views.specs.declared.descriptor.DescFault.{DescFault}
 use Rattle.fcg_views.specs.declared.descriptor.DescState.{DescState}
 use Rattle.fcg_views.specs.declared.descriptor.DescState.TheVariants.{Done, Returned}
 use Rattle.fcg_views.specs.Descriptor.{Item, Letter, Class, FieldType, MethodType, brackets, spell_item, spell_field, spell_return, IsItem, IsFieldType, IsReturn, Spans, IsFront, BreaksAt, FaultAt, FieldFaultAt, IsDescriptor, IsFieldDescriptor, is_letter}
-use Rattle.fcg_views.specs.DescSteps.{scan_from, fault_at, told, descriptor_of, is_descriptor, is_void, is_field_descriptor, no_parameters, begins_with_void, without_span, field_descriptor_of}
+use Rattle.fcg_views.specs.DescriptorSteps.{scan_from, fault_at, told, descriptor_of, is_descriptor, is_void, is_field_descriptor, no_parameters, begins_with_void, without_span, field_descriptor_of}
 use Rattle.fcg_views.proofs.DescRuns.{run, run_return}
 use Rattle.fcg_views.proofs.DescFound.{Back, found}
 use Rattle.fcg_views.proofs.DescBreaks.{finish, IsReadFrom, Scanned, scanned, told_right}

@@ -8,9 +8,9 @@ use Rattle.std.proofs.lemmas.List.Quantifiers.{position-Some}
 use Rattle.fcg_views.specs.declared.descriptor.DescSpan.{DescSpan}
 use Rattle.fcg_views.specs.declared.descriptor.DescState.{DescState}
 use Rattle.fcg_views.specs.declared.descriptor.DescState.TheVariants.{Start, Parameters, Array, Name, Returned, ReturnedArray, ReturnedName, Done}
-use Rattle.fcg_views.specs.DescBounds.{IsSmall}
-use Rattle.fcg_views.specs.DescSteps.{taken, step, scan_from}
-use Rattle.fcg_views.specs.DescPasses.{class_step, LeadsTo}
+use Rattle.fcg_views.specs.Internal.DescriptorBounds.{IsSmall}
+use Rattle.fcg_views.specs.DescriptorSteps.{taken, step, scan_from}
+use Rattle.fcg_views.specs.Internal.ClassSteps.{class_step, LeadsTo}
 use Rattle.fcg_views.proofs.PartLaws.{Without, at_place, parted_at, parted_found}
 
 -- a state in the name of a class, and the one after its `;`

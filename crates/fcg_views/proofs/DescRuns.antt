@@ -7,7 +7,7 @@ use Rattle.std.proofs.lemmas.List.Concat.{flat_map-cons}
 use Rattle.fcg_views.specs.declared.descriptor.DescSpan.{DescSpan}
 use Rattle.fcg_views.specs.declared.descriptor.DescState.{DescState}
 use Rattle.fcg_views.specs.declared.descriptor.DescState.TheVariants.{Start, Parameters, Array, Name, Returned, ReturnedArray, ReturnedName, Done}
-use Rattle.fcg_views.specs.DescSteps.{taken, closed, step}
+use Rattle.fcg_views.specs.DescriptorSteps.{taken, closed, step}
 use Rattle.fcg_views.specs.Descriptor.{Item, Letter, Class, FieldType, MethodType, brackets, spell_item, spell_field, spell_return, spell, IsItem, IsFieldType, units_with, units_of, units, IsReturn, IsMethodType, is_letter, letter_units}
 
 -- the state after the bytes, where each had a step and the last stands before the place `end`

@@ -9,7 +9,7 @@ use Rattle.percent_encoding.specs.AsciiSet.{should_percent_encode}
 use Rattle.percent_encoding.specs.Percent.{encode_byte, percent_encode, percent_encode_byte}
 use Rattle.fcg_views.specs.declared.escaping.Place.{Place}
 use Rattle.fcg_views.specs.declared.escaping.Place.TheVariants.{Class, Member, Desc}
-use Rattle.fcg_views.specs.Place.{set_of}
+use Rattle.fcg_views.specs.Internal.EscapeTables.{set_of}
 use Rattle.fcg_views.specs.Escape.{may_stand, escape_of, escaped}
 
 abbrev piece : Place → ℕ → List ℕ

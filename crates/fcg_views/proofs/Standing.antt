@@ -4,7 +4,7 @@ use Rattle.std.specs.List.{list_all}
 use Rattle.std.proofs.lemmas.Bool.{agree_below, agree_below_at, and_parts}
 use Rattle.fcg_views.specs.declared.escaping.Place.{Place}
 use Rattle.fcg_views.specs.declared.escaping.Place.TheVariants.{Class, Member, Desc}
-use Rattle.fcg_views.specs.Place.{table_of}
+use Rattle.fcg_views.specs.Internal.EscapeTables.{table_of}
 use Rattle.fcg_views.specs.Escape.{may_stand, escaped}
 
 checked : (place : Place) → agree_below (λ b. get_or (table_of place) b false) (may_stand place) 256 ≡ true

@@ -20,7 +20,7 @@ use Rattle.fcg_views.specs.declared.uri.UriFault.{UriFault}
 use Rattle.fcg_views.specs.declared.uri.UriRule.TheVariants as rules
 use Rattle.fcg_views.specs.Coordinate.{is_part_byte, Parts, AreParts, joined, IsCoordinate, parted, found_or, is_colon, has_byte, coordinate_of}
 use Rattle.fcg_views.specs.Descriptor.{IsDescriptor}
-use Rattle.fcg_views.specs.DescSteps.{is_descriptor}
+use Rattle.fcg_views.specs.DescriptorSteps.{is_descriptor}
 use Rattle.fcg_views.specs.Escape.{escaped, unescaped}
 use Rattle.fcg_views.specs.Uri.{scheme, in_uri, with_coordinate, Spells, with_dollar, uri_text, IsMethod, Names, fault, after_scheme, broken_coordinate, coordinate_in, part_to, at_escape, method_of, member_at, uri_of, UriVerdict, IsRead, IsBroken}
 use Rattle.fcg_views.proofs.PartLaws.{Without, parted_found, parted_only, any_none, none_any, all_back, all_both, all_by}

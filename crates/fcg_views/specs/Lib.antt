@@ -1,10 +1,8 @@
 pub mod Escape
-pub mod Place
 pub mod Descriptor
-pub mod DescSteps
-pub mod DescPasses
+pub mod DescriptorSteps
 pub mod Valid
-pub mod DescBounds
 pub mod Coordinate
 pub mod Set
 pub mod Uri
+pub mod Internal

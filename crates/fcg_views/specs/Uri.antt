@@ -12,7 +12,7 @@ use Rattle.fcg_views.specs.declared.uri.UriRule.{UriRule}
 use Rattle.fcg_views.specs.declared.uri.UriRule.TheVariants as rules
 use Rattle.fcg_views.specs.Coordinate.{Parts, AreParts, joined, parted, found_or, is_colon, has_byte, coordinate_of}
 use Rattle.fcg_views.specs.Descriptor.{IsDescriptor}
-use Rattle.fcg_views.specs.DescSteps.{is_descriptor}
+use Rattle.fcg_views.specs.DescriptorSteps.{is_descriptor}
 use Rattle.fcg_views.specs.Escape.{escaped, unescaped}
 
 -- ==== what they are

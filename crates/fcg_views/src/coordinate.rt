@@ -14,6 +14,7 @@ use crate::parting::part_at;
 use fcg_grammar::ReadError;
 use std::alloc::{AllocError, Global};
 use std::cmp::Ordering;
+use std::hash::{Hash, Hasher};
 use std::marker::Model;
 
 // The most bytes of a coordinate.
@@ -188,5 +189,17 @@ impl Ord for Coordinate {
 
     fn cmp(&self, other: &Coordinate) -> Ordering {
         self.text.cmp(&other.text)
+    }
+}
+
+impl Hash for Coordinate {
+    ghost use Rattle.std.specs.Hash as fed;
+
+    ghost hash_input = { fed.str };
+
+    ghost respects_eq = { Prim.search (hashing, rules) };
+
+    fn hash<H: Hasher>(&self, state: &mut H) {
+        self.text.hash(state);
     }
 }

@@ -1,9 +1,9 @@
 //! Field and method descriptors (JVMS 4.3.2, 4.3.3), read byte by byte, but each class at once.
 ghost use Rattle.std.specs.Prelude.{◌≡◌, ◌-◌, ◌^◌, ◌≤◌, ◌<◌, length, min, Some, IfSome, IfOk, IfErr, IsOk, is_ok};
-ghost use Rattle.fcg_views.specs.DescBounds.{IsSmall};
-ghost use Rattle.fcg_views.specs.DescPasses.{class_step, LeadsTo};
+ghost use Rattle.fcg_views.specs.Internal.DescriptorBounds.{IsSmall};
+ghost use Rattle.fcg_views.specs.Internal.ClassSteps.{class_step, LeadsTo};
 ghost use Rattle.fcg_views.specs.Descriptor.{Spans, FaultAt, IsFieldDescriptor, FieldFaultAt, is_letter, letter_units};
-ghost use Rattle.fcg_views.specs.DescSteps.{taken, parameter_step, array_step, name_step, result_step, result_array_step, result_name_step, step, fault_at, ended, scan_from, told, descriptor_of, begins_with_void, field_descriptor_of, is_field_descriptor};
+ghost use Rattle.fcg_views.specs.DescriptorSteps.{taken, parameter_step, array_step, name_step, result_step, result_array_step, result_name_step, step, fault_at, ended, scan_from, told, descriptor_of, begins_with_void, field_descriptor_of, is_field_descriptor};
 
 use crate::parting::find_byte;
 
@@ -27,7 +27,7 @@ pub struct DescFault {
 }
 
 // What the front of a descriptor leaves open.
-#[derive(Clone, Copy, Debug, PartialEq, Eq)]
+#[derive(Clone, Copy)]
 enum DescState {
     // Nothing was read.
     Start,

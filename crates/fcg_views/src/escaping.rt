@@ -96,7 +96,7 @@ static STANDS_IN_DESC: [bool; 256] = [
 ];
 
 impl Place {
-    ghost use Rattle.fcg_views.specs.Place.{set_of, table_of};
+    ghost use Rattle.fcg_views.specs.Internal.EscapeTables.{set_of, table_of};
     ghost use Rattle.fcg_views.specs.Escape.{others, may_stand};
     ghost use Rattle.std.specs.Prelude.{◌==◌};
     ghost use Rattle.std.specs.List.{list_any};

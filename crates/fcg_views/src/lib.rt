@@ -1,5 +1,5 @@
 //! The values that every layer speaks of: names, views of class files, and lists of them; coordinates of releases, sets
-//! of these, and URIs of methods. In specs/ stand the public definitions: what field and method descriptors are and where
+//! of these, and URIs of methods; and a count of steps. In specs/ stand the public definitions: what field and method descriptors are and where
 //! other bytes break, what coordinates and method URIs are and which first fault other texts have, which views are valid,
 //! and how names are escaped. The crate stands on the words of formats alone.
 #![tactic(auto)]
@@ -13,6 +13,7 @@ mod memory;
 mod name;
 mod parting;
 mod set;
+mod steps;
 mod unescaping;
 mod uri;
 mod valid;
@@ -26,6 +27,7 @@ pub use laws::{one_coordinate_verdict, one_uri_verdict};
 pub use memory::NoMemory;
 pub use name::Name;
 pub use set::Set;
+pub use steps::Steps;
 pub use uri::{MethodUri, UriFault, UriRule};
 pub use valid::{is_valid, sites_left};
 pub use view::{Field, HandleKind, Method, Ref, Site, SiteKind, View};

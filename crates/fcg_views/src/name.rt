@@ -10,6 +10,7 @@ ghost use Rattle.std.specs.Ordering.{nat_cmp, as_partial_cmp};
 use crate::memory::NoMemory;
 use std::alloc::{AllocError, Global};
 use std::cmp::Ordering;
+use std::hash::{Hash, Hasher};
 use std::marker::Model;
 use std::sync::ArcSlice;
 
@@ -62,6 +63,14 @@ impl Name {
             begin: self.begin + begin as u32,
             len: len as u32,
         })
+    }
+
+    /// Where the name begins in its block, and its length, in bytes. Where two names of one block have one place, they are
+    /// equal; names of different blocks may have one place and differ.
+    pub fn place(&self) -> (u32, u32)
+        ensures { result.1 ≡ length self.now }
+    {
+        (self.begin, self.len)
     }
 
     /// The bytes.
@@ -121,5 +130,18 @@ impl Ord for Name {
 
     fn cmp(&self, other: &Name) -> Ordering {
         self.as_slice().cmp(other.as_slice())
+    }
+}
+
+impl Hash for Name {
+    ghost use Rattle.std.specs.Hash as fed;
+
+    ghost hash_input = { fed.str };
+
+    ghost respects_eq = { Prim.search (hashing, rules) };
+
+    fn hash<H: Hasher>(&self, state: &mut H) {
+        state.write(self.as_slice());
+        state.write_u8(0xff);
     }
 }

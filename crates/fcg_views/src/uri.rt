@@ -3,7 +3,7 @@ ghost use Rattle.std.specs.Prelude.{◌≡◌, ◌++◌, ◌+◌, ◌<◌, ◌^�
 ghost use Rattle.std.specs.Option.{option_map};
 ghost use Rattle.fcg_grammar.specs.Reading.{seen, Gives};
 ghost use Rattle.fcg_views.specs.Coordinate.{IsCoordinate};
-ghost use Rattle.fcg_views.specs.Escape.{unescaped};
+ghost use Rattle.fcg_views.specs.Escape.{escaped, unescaped};
 ghost use Rattle.fcg_views.specs.Uri.{Spells, Names, uri_text, with_dollar, fault, after_scheme, at_escape, broken_coordinate, coordinate_in, part_to, method_of, member_at, uri_of};
 
 use crate::coordinate::{Coordinate, CoordinateFault};
@@ -228,6 +228,15 @@ fn push_coordinate(out: &mut Vec<u8>, text: &[u8]) -> Result<(), AllocError>
     out.extend_from_slice(version)
 }
 
+// Adds a name to a URI.
+fn push_name(alloc: Global, out: &mut Vec<u8>, name: &Name, place: Place) -> Result<(), NoMemory>
+    ensures { OnOk result (out.new.items ≡ out.old.items ++ escaped place name.now) }
+{
+    let text = escape(alloc, name.as_slice(), place)?;
+    out.extend_from_slice(text.as_slice())?;
+    Ok(())
+}
+
 #[tactic(auto, unfolding(crate::specs::Uri::uri_text))]
 fn write_uri(alloc: Global, uri: &MethodUri) -> Result<Bytes, NoMemory>
     ensures exact { IfOk result (λ text. text ≡ uri_text uri.now) }
@@ -237,10 +246,10 @@ fn write_uri(alloc: Global, uri: &MethodUri) -> Result<Bytes, NoMemory>
     text.extend_from_slice(SCHEME)?;
     push_coordinate(&mut text, uri.coordinate.text())?;
     text.push(b'/')?;
-    text.extend_from_slice(escape(alloc, uri.class.as_slice(), Place::Class)?.as_slice())?;
+    push_name(alloc, &mut text, &uri.class, Place::Class)?;
     text.push(b'.')?;
-    text.extend_from_slice(escape(alloc, uri.name.as_slice(), Place::Member)?.as_slice())?;
-    text.extend_from_slice(escape(alloc, uri.desc.as_slice(), Place::Desc)?.as_slice())?;
+    push_name(alloc, &mut text, &uri.name, Place::Member)?;
+    push_name(alloc, &mut text, &uri.desc, Place::Desc)?;
     Ok(Bytes::from(text))
 }
 

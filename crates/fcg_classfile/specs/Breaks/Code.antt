@@ -9,7 +9,7 @@ use Rattle.fcg_views.specs.declared.view.Site.{Site}
 use Rattle.fcg_classfile.specs.declared.fault.ClassFault.{ClassFault}
 use Rattle.fcg_classfile.specs.declared.fault.ClassRule.TheVariants.{WrongKind, EmptyName, Descriptor, CodeLength, CodeCut, ManySites, Trailing}
 use Rattle.fcg_classfile.specs.ClassFile.{is_one_of}
-use Rattle.fcg_views.specs.DescSteps.{is_descriptor, is_field_descriptor}
+use Rattle.fcg_views.specs.DescriptorSteps.{is_descriptor, is_field_descriptor}
 use Rattle.fcg_classfile.specs.Sites.{Target, ToMethod, ToField, ToType, SiteForm, site_form, is_dynamic, Found, nothing, both}
 use Rattle.fcg_classfile.specs.Breaks.Fault.{fault, at_place, at_opcode}
 use Rattle.fcg_classfile.specs.Breaks.Number.{u2_at, u4_at, part_at}

@@ -9,7 +9,7 @@ use Rattle.fcg_views.specs.declared.view.Method.{Method}
 use Rattle.fcg_views.specs.declared.view.Site.{Site}
 use Rattle.fcg_classfile.specs.declared.fault.ClassFault.{ClassFault}
 use Rattle.fcg_classfile.specs.declared.fault.ClassRule.TheVariants.{Descriptor, EmptyName, DoubleMethod, DoubleCode}
-use Rattle.fcg_views.specs.DescSteps.{is_descriptor, is_field_descriptor}
+use Rattle.fcg_views.specs.DescriptorSteps.{is_descriptor, is_field_descriptor}
 use Rattle.fcg_classfile.specs.ClassFile.{BootstrapMethod}
 use Rattle.fcg_classfile.specs.Sites.{Found, joined, merged}
 use Rattle.fcg_views.specs.Valid.{site_count, is_alike}

@@ -1,5 +1,5 @@
 use Rattle.std.proofs.Common.{◌≡◌, length}
-use Rattle.fcg_bytes.specs.Streams.{Wrote}
+use Rattle.fcg_bytes.specs.Internal.Streams.{Wrote}
 use Rattle.fcg_bytes.proofs.sink.write_whole.Given as goal
 
 abbrev pub invariant-loop-rest : goal.invariant-loop-rest

@@ -2,7 +2,7 @@ use Rattle.std.proofs.Common.{arith, sym, ◌∙◌, ap, not}
 use Rattle.std.specs.Prelude.{map}
 use Rattle.fcg_class.specs.Path.{is_path}
 use Rattle.fcg_class.specs.Pack.{of_paths}
-use Rattle.fcg_class.specs.Packing.{entry_of}
+use Rattle.fcg_class.specs.Internal.Packing.{entry_of}
 use Rattle.fcg_class.proofs.PackLemmas.{bad_within, entries_few, position_map}
 use Rattle.fcg_class.proofs.packing.check_paths.Goals as goal
 

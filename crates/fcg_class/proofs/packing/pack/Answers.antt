@@ -5,7 +5,7 @@ use Rattle.std.proofs.lemmas.List.{length-map}
 use Rattle.std.proofs.lemmas.Result.{err_from_is_err_and}
 use Rattle.fcg_bytes.specs.Files.{File, texts}
 use Rattle.fcg_class.specs.Pack.{entry_in}
-use Rattle.fcg_class.specs.Packing.{AreThere, GivesFiles, entry_of}
+use Rattle.fcg_class.specs.Internal.Packing.{AreThere, GivesFiles, entry_of}
 use Rattle.fcg_class.proofs.PackLemmas.{list_refused, read_refused, paths_refused, are_packed, entries_few}
 use Rattle.fcg_class.proofs.packing.pack.Goals as goal
 

@@ -3,7 +3,7 @@ use Rattle.std.specs.Prelude.{map, String, string_bytes, Option, Err, Ok, ℕ}
 use Rattle.std.proofs.lemmas.Result.{err_from_is_err_and}
 use Rattle.std.specs.Vec.Iter.{into_iter_items}
 use Rattle.fcg_bytes.specs.Files.{File, texts}
-use Rattle.fcg_class.specs.Packing.{bundle_size, entry_of, entry_size}
+use Rattle.fcg_class.specs.Internal.Packing.{bundle_size, entry_of, entry_size}
 use Rattle.fcg_class.specs.declared.packing.PackedFile.{PackedFile}
 use Rattle.fcg_grammar.proofs.Among.{map_append}
 use Rattle.fcg_class.proofs.PackLemmas.{ReadSoFar, Reads, read_begins, read_goes_on, read_stops, paths_more, size_more}

@@ -3,7 +3,7 @@ use Rattle.std.specs.Prelude.{map, string_bytes}
 use Rattle.std.specs.Vec.Iter.{into_iter_items, into_iter_len}
 use Rattle.fcg_bytes.specs.Files.{texts}
 use Rattle.fcg_class.specs.Pack.{bundle_limit}
-use Rattle.fcg_class.specs.Packing.{bundle_size, entry_of}
+use Rattle.fcg_class.specs.Internal.Packing.{bundle_size, entry_of}
 use Rattle.fcg_class.proofs.PackLemmas.{ReadSoFar}
 use Rattle.fcg_class.proofs.packing.read_files.Given as goal
 

@@ -1,7 +1,7 @@
 use Rattle.std.proofs.Common.{arith}
 use Rattle.std.specs.Prelude.{map}
 use Rattle.std.proofs.lemmas.List.{length-map}
-use Rattle.fcg_class.specs.Packing.{entry_of}
+use Rattle.fcg_class.specs.Internal.Packing.{entry_of}
 use Rattle.fcg_class.proofs.PackLemmas.{entries_few}
 use Rattle.fcg_class.proofs.packing.spell.Goals as goal
 

@@ -4,7 +4,7 @@ use Rattle.std.specs.List.{flat_map}
 use Rattle.std.specs.Vec.Iter.{into_iter_items, into_iter_len}
 use Rattle.fcg_class.specs.Bundle.{bundle, entry}
 use Rattle.fcg_class.specs.Pack.{bad_path, bundle_limit}
-use Rattle.fcg_class.specs.Packing.{bundle_size, entry_of}
+use Rattle.fcg_class.specs.Internal.Packing.{bundle_size, entry_of}
 use Rattle.fcg_class.proofs.packing.spell.Given as goal
 
 abbrev pub invariant-loop-file : goal.invariant-loop-file

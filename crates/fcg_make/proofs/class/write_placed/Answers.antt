@@ -3,7 +3,7 @@ use Rattle.fcg_views.specs.declared.view.Method.{Method}
 use Rattle.fcg_make.specs.declared.entry.Entry.{Entry}
 use Rattle.fcg_make.specs.Steps.{Step}
 use Rattle.fcg_make.specs.Needs.{rows_of}
-use Rattle.fcg_make.specs.Small.{IsShortText}
+use Rattle.fcg_make.specs.Internal.Small.{IsShortText}
 use Rattle.fcg_make.specs.Unwritable.{is_placed}
 use Rattle.fcg_make.proofs.LengthLemmas.{few_handles, short_rows}
 use Rattle.fcg_make.proofs.WrittenLemmas.{IsSaid, full_rows, full_pool, pool_short, written_is}

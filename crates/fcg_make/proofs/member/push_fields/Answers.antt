@@ -2,7 +2,7 @@ use Rattle.std.proofs.Common.{sym}
 use Rattle.std.proofs.lemmas.List.{append-nil}
 use Rattle.fcg_classfile.specs.ClassFile.{member_info}
 use Rattle.fcg_make.specs.Layout.{field_of}
-use Rattle.fcg_make.specs.Small.{IsFlaggedField}
+use Rattle.fcg_make.specs.Internal.Small.{IsFlaggedField}
 use Rattle.fcg_make.proofs.WriteLemmas.{written_more, kept_more, nothing_left}
 use Rattle.fcg_make.proofs.member.push_fields.Goals as goal
 

@@ -2,7 +2,7 @@ use Rattle.std.proofs.Common.{◌≡◌, ◌++◌, take, drop}
 use Rattle.std.specs.List.{flat_map, AllByRecursion}
 use Rattle.fcg_classfile.specs.ClassFile.{member_info}
 use Rattle.fcg_make.specs.Layout.{field_of}
-use Rattle.fcg_make.specs.Small.{IsFlaggedField}
+use Rattle.fcg_make.specs.Internal.Small.{IsFlaggedField}
 use Rattle.fcg_make.proofs.member.push_fields.Given as goal
 
 abbrev pub invariant-loop-field : goal.invariant-loop-field

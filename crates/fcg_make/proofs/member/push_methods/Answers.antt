@@ -3,7 +3,7 @@ use Rattle.std.specs.List.{list_all}
 use Rattle.fcg_views.specs.declared.view.Site.{Site}
 use Rattle.fcg_make.specs.Steps.{calls, steps_of}
 use Rattle.fcg_make.specs.Unwritable.{is_placed_method}
-use Rattle.fcg_make.specs.Small.{IsFlaggedMethod}
+use Rattle.fcg_make.specs.Internal.Small.{IsFlaggedMethod}
 use Rattle.fcg_make.proofs.WriteLemmas.{methods_left, kept_first}
 use Rattle.fcg_make.proofs.AddLemmas.{rows_more}
 use Rattle.fcg_make.proofs.SoundLemmas.{both_of}

@@ -3,8 +3,8 @@ use Rattle.std.specs.List.{flat_map, list_all, AllByRecursion}
 use Rattle.fcg_make.specs.Steps.{method_rows, numbered}
 use Rattle.fcg_make.specs.Needs.{rows_of}
 use Rattle.fcg_make.specs.Unwritable.{is_placed_method}
-use Rattle.fcg_make.specs.Parts.{method_part}
-use Rattle.fcg_make.specs.Small.{IsFlaggedMethod}
+use Rattle.fcg_make.specs.Internal.Parts.{method_part}
+use Rattle.fcg_make.specs.Internal.Small.{IsFlaggedMethod}
 use Rattle.fcg_make.proofs.member.push_methods.Given as goal
 
 -- what is written and what is left, the rows that are left, and that the methods are placed

@@ -1,6 +1,6 @@
 use Rattle.std.proofs.Common.{◌≡◌, ◌++◌, take}
 use Rattle.std.specs.List.{flat_map}
-use Rattle.fcg_make.specs.Parts.{row_part}
+use Rattle.fcg_make.specs.Internal.Parts.{row_part}
 use Rattle.fcg_make.proofs.member.push_rows.Given as goal
 
 abbrev pub invariant-loop-row : goal.invariant-loop-row

@@ -2,7 +2,7 @@ use Rattle.std.proofs.Common.{◌≡◌, ◌<◌, ℕ, length, get_or, sym, ap, 
 use Rattle.std.specs.Prelude.{map, Err}
 use Rattle.fcg_partial.specs.declared.fault.RecordRule.TheVariants.{Unused}
 use Rattle.fcg_partial.specs.Fault.{fault}
-use Rattle.fcg_partial.specs.Places.{text_at}
+use Rattle.fcg_partial.specs.Internal.RowPlaces.{text_at}
 use Rattle.fcg_partial.specs.Reading.{name_place}
 use Rattle.fcg_partial.proofs.NameLoop.{follow_place}
 use Rattle.fcg_partial.proofs.index.check_names.Goals as goal

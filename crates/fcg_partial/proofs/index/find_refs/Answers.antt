@@ -1,7 +1,7 @@
 use Rattle.std.proofs.Common.{◌≡◌, ℕ, List, length, Bool, ap, ◌∙◌}
 use Rattle.std.specs.Prelude.{map}
 use Rattle.std.proofs.lemmas.Result.{err_from_is_err_and}
-use Rattle.fcg_partial.specs.Places.{text_at}
+use Rattle.fcg_partial.specs.Internal.RowPlaces.{text_at}
 use Rattle.fcg_partial.proofs.IndexLaws.{length_replicate, no_ref_count, refs_fail}
 use Rattle.fcg_partial.proofs.index.find_refs.Goals as goal
 

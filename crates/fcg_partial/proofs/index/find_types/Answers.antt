@@ -4,8 +4,8 @@ use Rattle.std.specs.List.{flat_map}
 use Rattle.std.proofs.lemmas.Bool.Decides.{nat_tests}
 use Rattle.std.proofs.lemmas.Result.{err_from_is_err_and}
 use Rattle.fcg_partial.specs.Graph.{type_targets}
-use Rattle.fcg_partial.specs.Marks.{marked, ArePlaces}
-use Rattle.fcg_partial.specs.Places.{text_at}
+use Rattle.fcg_partial.specs.Internal.UsedNumbers.{marked, ArePlaces}
+use Rattle.fcg_partial.specs.Internal.RowPlaces.{text_at}
 use Rattle.fcg_partial.proofs.IndexLaws.{length_replicate, length_map, no_type_count, types_fail, trailing, unused_name, unused_ref, all_used, refs_are, refs_long, graph}
 use Rattle.fcg_partial.proofs.TypeReads.{marked_long}
 use Rattle.fcg_partial.proofs.MarkLaws.{length_marked}

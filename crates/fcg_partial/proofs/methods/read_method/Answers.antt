@@ -2,7 +2,7 @@ use Rattle.std.proofs.Common.{◌≡◌, ◌+◌, ltb, true, false, [], ◌∷�
 use Rattle.std.proofs.lemmas.Bool.Decides.{nat_tests}
 use Rattle.std.proofs.lemmas.Result.{err_from_is_err_and}
 use Rattle.fcg_partial.specs.Graph.{StoredMethod}
-use Rattle.fcg_partial.specs.Marks.{marked, earlier}
+use Rattle.fcg_partial.specs.Internal.UsedNumbers.{marked, earlier}
 use Rattle.fcg_partial.specs.Reading.{method_at}
 use Rattle.fcg_partial.proofs.KeyLaws.{double_after, fresh_after, AreKeys-push, key_of, flat_targets}
 use Rattle.fcg_partial.proofs.methods.read_method.Goals as goal

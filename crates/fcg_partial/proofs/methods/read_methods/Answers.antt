@@ -4,7 +4,7 @@ use Rattle.std.proofs.lemmas.List.{append-nil, length_push}
 use Rattle.std.proofs.lemmas.Result.{err_from_is_err_and}
 use Rattle.fcg_grammar.proofs.RowLemmas.{rows_fail}
 use Rattle.fcg_partial.specs.Graph.{method_uses, method_targets}
-use Rattle.fcg_partial.specs.Marks.{marks_of, earlier, at_state}
+use Rattle.fcg_partial.specs.Internal.UsedNumbers.{marks_of, earlier, at_state}
 use Rattle.fcg_partial.specs.Reading.{Earlier, method_at}
 use Rattle.fcg_partial.proofs.BothRows.{both_begin, both_more, both_names, both_refs}
 use Rattle.fcg_partial.proofs.SeenLaws.{seen_fails, next_is}

@@ -1,7 +1,7 @@
 use Rattle.std.proofs.Common.{◌≡◌, ◌≤◌, ◌+◌, ℕ, List, [], ◌++◌, length}
 use Rattle.fcg_partial.specs.Graph.{method_uses, method_targets}
 use Rattle.fcg_partial.specs.Reading.{method_at}
-use Rattle.fcg_partial.specs.Marks.{marks_of, AreKeys, earlier, at_state}
+use Rattle.fcg_partial.specs.Internal.UsedNumbers.{marks_of, AreKeys, earlier, at_state}
 use Rattle.fcg_partial.proofs.BothRows.{BothRows}
 use Rattle.fcg_partial.proofs.methods.read_methods.Given as goal
 

@@ -1,5 +1,5 @@
 use Rattle.std.proofs.lemmas.Result.{err_from_is_err_and}
-use Rattle.fcg_partial.specs.Places.{HasText, of_last}
+use Rattle.fcg_partial.specs.Internal.RowPlaces.{HasText, of_last}
 use Rattle.fcg_partial.proofs.NameLoop.{names_go_on, names_end, all_push, follow_push}
 use Rattle.fcg_partial.proofs.names.read_names.Goals as goal
 

@@ -4,7 +4,7 @@ use Rattle.std.specs.List.{AllByRecursion}
 use Rattle.fcg_grammar.specs.Rows.{rows}
 use Rattle.fcg_grammar.proofs.RowLemmas.{with_front}
 use Rattle.fcg_partial.specs.Reading.{name_at}
-use Rattle.fcg_partial.specs.Places.{text_at, HasText, Follow, of_last, start}
+use Rattle.fcg_partial.specs.Internal.RowPlaces.{text_at, HasText, Follow, of_last, start}
 use Rattle.fcg_partial.proofs.names.read_names.Given as goal
 
 abbrev pub invariant-loop : goal.invariant-loop

@@ -1,7 +1,7 @@
 use Rattle.std.proofs.Common.{◌≡◌, ◌+◌, length, sym, arith}
 use Rattle.fcg_partial.specs.Reading.{Begun, ref_at}
 use Rattle.fcg_partial.specs.Graph.{ref_uses}
-use Rattle.fcg_partial.specs.Places.{begun, start}
+use Rattle.fcg_partial.specs.Internal.RowPlaces.{begun, start}
 use Rattle.fcg_partial.proofs.MarkRows.{mark_begin, mark_more, marks_long}
 use Rattle.fcg_partial.proofs.refs.read_refs.Goals as goal
 

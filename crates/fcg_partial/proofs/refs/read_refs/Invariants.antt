@@ -1,7 +1,7 @@
 use Rattle.std.proofs.Common.{◌≡◌, ◌+◌, ◌*◌, ◌≤◌, length}
 use Rattle.fcg_partial.specs.Reading.{ref_at}
 use Rattle.fcg_partial.specs.Graph.{ref_uses}
-use Rattle.fcg_partial.specs.Places.{start}
+use Rattle.fcg_partial.specs.Internal.RowPlaces.{start}
 use Rattle.fcg_partial.proofs.MarkRows.{MarkedRows}
 use Rattle.fcg_partial.proofs.refs.read_refs.Given as goal
 

@@ -1,4 +1,4 @@
-use Rattle.fcg_partial.specs.Marks.{marked}
+use Rattle.fcg_partial.specs.Internal.UsedNumbers.{marked}
 use Rattle.fcg_partial.specs.Reading.{field_at}
 use Rattle.std.proofs.Common.{refl, sym}
 use Rattle.fcg_partial.proofs.rows.read_field.Goals as goal

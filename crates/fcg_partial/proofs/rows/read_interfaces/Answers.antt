@@ -1,6 +1,6 @@
 use Rattle.std.proofs.Common.{length, arith}
 use Rattle.fcg_partial.specs.Reading.{interface_at}
-use Rattle.fcg_partial.specs.Marks.{one_use}
+use Rattle.fcg_partial.specs.Internal.UsedNumbers.{one_use}
 use Rattle.fcg_partial.proofs.MarkRows.{mark_begin, mark_more, marks_long}
 use Rattle.fcg_partial.proofs.rows.read_interfaces.Goals as goal
 

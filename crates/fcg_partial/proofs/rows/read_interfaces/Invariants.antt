@@ -1,6 +1,6 @@
 use Rattle.std.proofs.Common.{◌≤◌, length}
 use Rattle.fcg_partial.specs.Reading.{interface_at}
-use Rattle.fcg_partial.specs.Marks.{one_use}
+use Rattle.fcg_partial.specs.Internal.UsedNumbers.{one_use}
 use Rattle.fcg_partial.proofs.MarkRows.{MarkedRows}
 use Rattle.fcg_partial.proofs.rows.read_interfaces.Given as goal
 

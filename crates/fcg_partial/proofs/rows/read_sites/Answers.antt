@@ -1,6 +1,6 @@
 use Rattle.std.proofs.Common.{length, arith}
 use Rattle.fcg_partial.specs.Reading.{site_at}
-use Rattle.fcg_partial.specs.Marks.{site_target}
+use Rattle.fcg_partial.specs.Internal.UsedNumbers.{site_target}
 use Rattle.fcg_partial.proofs.MarkRows.{mark_begin, mark_more, marks_long}
 use Rattle.fcg_partial.proofs.rows.read_sites.Goals as goal
 

@@ -1,6 +1,6 @@
 use Rattle.std.proofs.Common.{◌≤◌, length}
 use Rattle.fcg_partial.specs.Reading.{site_at}
-use Rattle.fcg_partial.specs.Marks.{site_target}
+use Rattle.fcg_partial.specs.Internal.UsedNumbers.{site_target}
 use Rattle.fcg_partial.proofs.MarkRows.{MarkedRows}
 use Rattle.fcg_partial.proofs.rows.read_sites.Given as goal
 

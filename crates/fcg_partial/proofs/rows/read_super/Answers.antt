@@ -1,7 +1,7 @@
 use Rattle.std.proofs.Common.{◌≡◌, true, false, refl, sym, arith}
 use Rattle.std.specs.Prelude.{Some, None, ◌==◌}
 use Rattle.std.proofs.lemmas.Bool.Decides.{nat_tests}
-use Rattle.fcg_partial.specs.Marks.{marked}
+use Rattle.fcg_partial.specs.Internal.UsedNumbers.{marked}
 use Rattle.fcg_partial.specs.Reading.{super_at}
 use Rattle.fcg_partial.proofs.rows.read_super.Goals as goal
 

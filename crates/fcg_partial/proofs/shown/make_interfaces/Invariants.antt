@@ -2,7 +2,7 @@ use Rattle.std.proofs.Common.{◌≡◌, take}
 use Rattle.std.specs.Prelude.{map}
 use Rattle.fcg_partial.specs.Graph.{StoredType}
 use Rattle.fcg_partial.specs.Views.{graph_of, name_in}
-use Rattle.fcg_partial.specs.Told.{HasType}
+use Rattle.fcg_partial.specs.Accessors.{HasType}
 use Rattle.fcg_partial.proofs.shown.make_interfaces.Given as goal
 
 abbrev pub invariant-loop-j : goal.invariant-loop-j

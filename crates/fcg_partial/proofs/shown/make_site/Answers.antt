@@ -1,7 +1,7 @@
 use Rattle.std.proofs.Common.{ℕ, List, refl, sym, ap, subst, ◌∙◌, []}
 use Rattle.fcg_partial.specs.declared.row.SiteRow.{SiteRow}
 use Rattle.fcg_partial.specs.Views.{shown_ref, graph_of}
-use Rattle.fcg_partial.specs.Told.{HasRef}
+use Rattle.fcg_partial.specs.Accessors.{HasRef}
 use Rattle.fcg_partial.proofs.ShownLaws.{target_there, index_or_get}
 use Rattle.fcg_partial.proofs.shown.make_site.Goals as goal
 

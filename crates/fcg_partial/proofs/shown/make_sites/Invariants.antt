@@ -2,7 +2,7 @@ use Rattle.std.proofs.Common.{◌≡◌, take}
 use Rattle.std.specs.Prelude.{map}
 use Rattle.fcg_partial.specs.Graph.{StoredMethod}
 use Rattle.fcg_partial.specs.Views.{graph_of, shown_site}
-use Rattle.fcg_partial.specs.Told.{HasMethod}
+use Rattle.fcg_partial.specs.Accessors.{HasMethod}
 use Rattle.fcg_partial.proofs.shown.make_sites.Given as goal
 
 abbrev pub invariant-loop-s : goal.invariant-loop-s

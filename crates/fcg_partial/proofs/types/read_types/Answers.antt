@@ -2,7 +2,7 @@ use Rattle.std.proofs.Common.{rules, ◌≡◌, length, refl, ◌∙◌, arith}
 use Rattle.std.proofs.lemmas.Result.{err_from_is_err_and}
 use Rattle.fcg_grammar.proofs.RowLemmas.{rows_fail}
 use Rattle.fcg_partial.specs.Graph.{type_uses, type_targets}
-use Rattle.fcg_partial.specs.Marks.{marks_of, at_place, at_state, methods_of, ReadAt}
+use Rattle.fcg_partial.specs.Internal.UsedNumbers.{marks_of, at_place, at_state, methods_of, ReadAt}
 use Rattle.fcg_partial.specs.Reading.{method_at, type_at}
 use Rattle.fcg_partial.proofs.BothRows.{both_begin, both_more, both_names, both_refs, zip_append, zip_length}
 use Rattle.fcg_partial.proofs.PlaceLaws.{firsts_push, methods_push}

@@ -1,7 +1,7 @@
 use Rattle.std.proofs.Common.{◌≡◌, ◌≤◌, length}
 use Rattle.fcg_partial.specs.Graph.{type_uses, type_targets}
 use Rattle.fcg_partial.specs.Reading.{type_at}
-use Rattle.fcg_partial.specs.Marks.{marks_of, at_place, firsts_of, methods_of, AreMethodPlaces}
+use Rattle.fcg_partial.specs.Internal.UsedNumbers.{marks_of, at_place, firsts_of, methods_of, AreMethodPlaces}
 use Rattle.fcg_partial.proofs.BothRows.{BothRows}
 use Rattle.fcg_partial.proofs.types.read_types.Given as goal
 

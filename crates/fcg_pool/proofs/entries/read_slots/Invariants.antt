@@ -1,8 +1,8 @@
 use Rattle.std.proofs.Common.{◌≡◌, ◌-◌, ◌+◌, ◌≤◌, length, map, All}
 use Rattle.fcg_grammar.specs.Rows.{rows}
 use Rattle.fcg_classfile.specs.Breaks.Pool.{slot_at}
-use Rattle.fcg_pool.specs.Standing.{slot_in, IsInside}
-use Rattle.fcg_pool.specs.Seen.{next_of, start}
+use Rattle.fcg_pool.specs.ConstantAt.{slot_in, IsInside}
+use Rattle.fcg_pool.specs.CodeValues.{next_of, start}
 use Rattle.fcg_grammar.proofs.RowLemmas.{with_front}
 use Rattle.fcg_pool.proofs.entries.read_slots.Given as goal
 

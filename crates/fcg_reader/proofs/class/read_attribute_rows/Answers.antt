@@ -3,7 +3,7 @@ use Rattle.fcg_grammar.proofs.RowLemmas.{ended_goes_on}
 use Rattle.fcg_classfile.specs.declared.fault.ClassRule.TheVariants.{Bootstrap}
 use Rattle.fcg_classfile.specs.Breaks.Attributes.{one_at}
 use Rattle.fcg_classfile.specs.Breaks.Bootstrap.{rows_at}
-use Rattle.fcg_reader.specs.Class.{class_begun}
+use Rattle.fcg_reader.specs.Internal.Class.{class_begun}
 use Rattle.fcg_reader.proofs.class.read_attribute_rows.Goals as goal
 
 pub loop-preserved : goal.loop-preserved

@@ -5,7 +5,7 @@ use Rattle.fcg_classfile.specs.declared.fault.ClassRule.TheVariants.{Bootstrap}
 use Rattle.fcg_classfile.specs.ClassFile.{BootstrapMethod}
 use Rattle.fcg_classfile.specs.Breaks.Attributes.{one_at}
 use Rattle.fcg_classfile.specs.Breaks.Bootstrap.{rows_at}
-use Rattle.fcg_reader.specs.Class.{rows_said, rows_seen, class_begun}
+use Rattle.fcg_reader.specs.Internal.Class.{rows_said, rows_seen, class_begun}
 use Rattle.fcg_reader.proofs.class.read_attribute_rows.Given as goal
 
 abbrev pub invariant-loop : goal.invariant-loop

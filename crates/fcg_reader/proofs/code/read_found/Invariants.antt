@@ -1,6 +1,6 @@
 use Rattle.std.proofs.Common.{◌≡◌, ◌+◌, ◌-◌, ◌≤◌, length}
 use Rattle.fcg_classfile.specs.Breaks.Code.{found_of}
-use Rattle.fcg_reader.specs.Calls.{ArePlaced}
+use Rattle.fcg_reader.specs.Internal.Calls.{ArePlaced}
 use Rattle.fcg_reader.proofs.CodeLemmas.{FoundLeft}
 use Rattle.fcg_reader.proofs.code.read_found.Given as goal
 

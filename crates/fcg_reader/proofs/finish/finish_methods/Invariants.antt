@@ -3,7 +3,7 @@ use Rattle.std.specs.Vec.Iter.{into_iter_items, into_iter_len}
 use Rattle.fcg_grammar.specs.Rows.{carried}
 use Rattle.fcg_grammar.proofs.RowLemmas.{with_front}
 use Rattle.fcg_classfile.specs.Breaks.Members.{finished}
-use Rattle.fcg_reader.specs.Handles.{bootstraps}
+use Rattle.fcg_reader.specs.Internal.Handles.{bootstraps}
 use Rattle.fcg_reader.proofs.finish.finish_methods.Given as goal
 
 abbrev pub invariant-loop-unfinished : goal.invariant-loop-unfinished

@@ -1,7 +1,7 @@
 use Rattle.std.proofs.Common.{◌≡◌, ◌≤◌, ◌+◌, length, drop}
 use Rattle.fcg_grammar.specs.Rows.{carried}
 use Rattle.fcg_classfile.specs.Breaks.Bootstrap.{call_sites}
-use Rattle.fcg_reader.specs.Handles.{all_joined}
+use Rattle.fcg_reader.specs.Internal.Handles.{all_joined}
 use Rattle.fcg_reader.proofs.HandleLemmas.{with_joined}
 use Rattle.fcg_reader.proofs.finish.read_calls.Given as goal
 

@@ -1,6 +1,6 @@
 use Rattle.std.proofs.Common.{[], sym}
 use Rattle.std.proofs.lemmas.List.{append-nil}
-use Rattle.fcg_reader.specs.Handles.{moved_at}
+use Rattle.fcg_reader.specs.Internal.Handles.{moved_at}
 use Rattle.fcg_reader.proofs.HandleLemmas.{carried_begins, moved_on, moved_past, moved_done}
 use Rattle.fcg_reader.proofs.handles.push_moved.Goals as goal
 

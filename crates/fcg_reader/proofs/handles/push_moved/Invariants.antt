@@ -1,7 +1,7 @@
 use Rattle.std.proofs.Common.{◌≡◌, ◌≤◌, ◌+◌, ◌++◌, List, length, drop}
 use Rattle.fcg_grammar.proofs.RowLemmas.{with_front}
 use Rattle.fcg_views.specs.declared.view.Site.{Site}
-use Rattle.fcg_reader.specs.Handles.{all_moved_at}
+use Rattle.fcg_reader.specs.Internal.Handles.{all_moved_at}
 use Rattle.fcg_reader.proofs.handles.push_moved.Given as goal
 
 abbrev pub invariant-loop-site : goal.invariant-loop-site

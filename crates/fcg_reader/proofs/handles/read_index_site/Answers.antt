@@ -1,7 +1,7 @@
 use Rattle.std.proofs.Common.{sym, ap, ◌∙◌}
 use Rattle.std.specs.Prelude.{Ok}
 use Rattle.std.proofs.lemmas.Result.{err_from_is_err_and}
-use Rattle.fcg_reader.specs.Sites.{form_in}
+use Rattle.fcg_reader.specs.Internal.Sites.{form_in}
 use Rattle.fcg_reader.proofs.HandleLemmas.{index_fails, index_other, index_formless, index_broken, index_read, site_of-few}
 use Rattle.fcg_reader.proofs.handles.read_index_site.Goals as goal
 

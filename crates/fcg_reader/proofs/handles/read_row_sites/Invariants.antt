@@ -1,7 +1,7 @@
 use Rattle.std.proofs.Common.{◌≡◌, ◌≤◌, ◌+◌, ◌∷◌, length, drop}
 use Rattle.fcg_grammar.specs.Rows.{carried}
 use Rattle.fcg_classfile.specs.Breaks.Bootstrap.{index_sites}
-use Rattle.fcg_reader.specs.Handles.{all_joined}
+use Rattle.fcg_reader.specs.Internal.Handles.{all_joined}
 use Rattle.fcg_reader.proofs.HandleLemmas.{with_joined}
 use Rattle.fcg_reader.proofs.handles.read_row_sites.Given as goal
 

@@ -4,7 +4,7 @@ use Rattle.std.proofs.lemmas.Result.{err_from_is_err_and}
 use Rattle.fcg_classfile.specs.declared.fault.ClassRule.TheVariants.{DoubleCode}
 use Rattle.fcg_classfile.specs.Breaks.Code.{code_at}
 use Rattle.fcg_classfile.specs.Breaks.Attributes.{one_at}
-use Rattle.fcg_reader.specs.Members.{code_begun}
+use Rattle.fcg_reader.specs.Internal.Members.{code_begun}
 use Rattle.fcg_reader.proofs.AttributeLemmas.{one_broken, one_passed, one_fails, one_read}
 use Rattle.fcg_reader.proofs.members.read_attribute.Goals as goal
 

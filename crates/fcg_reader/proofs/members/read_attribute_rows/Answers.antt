@@ -3,7 +3,7 @@ use Rattle.fcg_grammar.proofs.RowLemmas.{ended_goes_on}
 use Rattle.fcg_classfile.specs.declared.fault.ClassRule.TheVariants.{DoubleCode}
 use Rattle.fcg_classfile.specs.Breaks.Attributes.{one_at}
 use Rattle.fcg_classfile.specs.Breaks.Code.{code_at}
-use Rattle.fcg_reader.specs.Members.{code_begun}
+use Rattle.fcg_reader.specs.Internal.Members.{code_begun}
 use Rattle.fcg_reader.proofs.members.read_attribute_rows.Goals as goal
 
 pub loop-preserved : goal.loop-preserved

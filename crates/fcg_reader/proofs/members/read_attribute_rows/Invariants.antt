@@ -4,7 +4,7 @@ use Rattle.fcg_grammar.specs.Rows.{rows, ended}
 use Rattle.fcg_classfile.specs.declared.fault.ClassRule.TheVariants.{DoubleCode}
 use Rattle.fcg_classfile.specs.Breaks.Attributes.{one_at}
 use Rattle.fcg_classfile.specs.Breaks.Code.{code_at}
-use Rattle.fcg_reader.specs.Members.{code_begun, code_sites}
+use Rattle.fcg_reader.specs.Internal.Members.{code_begun, code_sites}
 use Rattle.fcg_reader.proofs.members.read_attribute_rows.Given as goal
 
 abbrev pub invariant-loop : goal.invariant-loop

@@ -1,7 +1,7 @@
 use Rattle.std.proofs.Common.{◌≡◌, ◌∷◌, [], ◌++◌, sym, ap, ◌∙◌}
 use Rattle.std.proofs.lemmas.Result.{err_from_is_err_and}
 use Rattle.fcg_classfile.specs.Breaks.Members.{Unfinished, unfinished}
-use Rattle.fcg_reader.specs.Members.{declared_of, code_begun}
+use Rattle.fcg_reader.specs.Internal.Members.{declared_of, code_begun}
 use Rattle.fcg_reader.proofs.MethodLemmas.{method_at-doubled, method_at-broken, method_at-read}
 use Rattle.fcg_reader.proofs.members.read_method.Goals as goal
 

@@ -2,7 +2,7 @@ use Rattle.std.proofs.Common.{◌≡◌, ◌-◌, ◌≤◌, length, []}
 use Rattle.fcg_grammar.specs.Rows.{rows}
 use Rattle.fcg_grammar.proofs.RowLemmas.{with_front}
 use Rattle.fcg_classfile.specs.Breaks.Members.{method_at}
-use Rattle.fcg_reader.specs.Members.{begun}
+use Rattle.fcg_reader.specs.Internal.Members.{begun}
 use Rattle.fcg_reader.proofs.members.read_method_rows.Given as goal
 
 abbrev pub invariant-loop : goal.invariant-loop

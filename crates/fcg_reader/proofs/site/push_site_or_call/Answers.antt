@@ -2,7 +2,7 @@ use Rattle.std.proofs.Common.{rules, ◌≡◌, ◌+◌, ◌<◌, ◌^◌, [], �
 use Rattle.std.proofs.lemmas.List.{append-nil}
 use Rattle.std.proofs.lemmas.List.Elements.{All-push}
 use Rattle.fcg_classfile.specs.Sites.{nothing}
-use Rattle.fcg_reader.specs.Sites.{form_in}
+use Rattle.fcg_reader.specs.Internal.Sites.{form_in}
 use Rattle.fcg_reader.proofs.CodeLemmas.{found_nothing, found_site, found_call}
 use Rattle.fcg_reader.proofs.site.push_site_or_call.Goals as goal
 

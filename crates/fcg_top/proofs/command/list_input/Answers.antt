@@ -2,7 +2,7 @@ use Rattle.std.proofs.Common.{List, ℕ, length, ap, subst, arith}
 use Rattle.std.proofs.lemmas.Result.{err_from_is_err_and}
 use Rattle.std.specs.Prelude.{Err}
 use Rattle.fcg_top.specs.Answer.{IsMeant}
-use Rattle.fcg_top.specs.Stopped.{stop_of_bundle}
+use Rattle.fcg_top.specs.Internal.Stopped.{stop_of_bundle}
 use Rattle.fcg_top.proofs.Meanings.{read_to_end, refused_means}
 use Rattle.fcg_top.proofs.command.list_input.Goals as goal
 

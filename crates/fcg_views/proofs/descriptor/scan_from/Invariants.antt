@@ -1,6 +1,6 @@
 use Rattle.std.proofs.Common.{length, drop, ◌-◌, ◌≡◌, ◌≤◌}
-use Rattle.fcg_views.specs.DescSteps.{scan_from}
-use Rattle.fcg_views.specs.DescBounds.{IsSmall}
+use Rattle.fcg_views.specs.DescriptorSteps.{scan_from}
+use Rattle.fcg_views.specs.Internal.DescriptorBounds.{IsSmall}
 use Rattle.fcg_views.proofs.descriptor.scan_from.Given as goal
 
 abbrev pub invariant-loop-at : goal.invariant-loop-at

@@ -1,6 +1,6 @@
 use Rattle.std.proofs.Common.{◌≡◌, ◌&&◌, drop}
 use Rattle.std.specs.List.{list_all}
-use Rattle.fcg_views.specs.Place.{table_of}
+use Rattle.fcg_views.specs.Internal.EscapeTables.{table_of}
 use Rattle.fcg_views.specs.Escape.{may_stand}
 use Rattle.fcg_views.proofs.escaping.all_stand.Given as goal
 

@@ -1,5 +1,5 @@
 use Rattle.std.proofs.Common.{ap, ◌∙◌}
-use Rattle.fcg_partial.specs.Kept.{text_of}
+use Rattle.fcg_partial.specs.Views.{text_of}
 use Rattle.fcg_partial.proofs.KeptLaws.{kept_text}
 use Rattle.fcg_partial.proofs.graph.PartialGraph.as_bytes.Goals as goal
 

@@ -2,7 +2,7 @@ use Rattle.std.proofs.Common.{List, ℕ, sym, ap, ◌∙◌, arith}
 use Rattle.std.specs.Prelude.{Ok}
 use Rattle.std.proofs.lemmas.Result.{err_from_is_err_and}
 use Rattle.fcg_partial.specs.Reading.{views_in}
-use Rattle.fcg_partial.specs.Kept.{text_of}
+use Rattle.fcg_partial.specs.Views.{text_of}
 use Rattle.fcg_partial.proofs.KeptLaws.{read_text, read_gives, read_only, fails_only}
 use Rattle.fcg_partial.proofs.graph.PartialGraph.decode.Goals as goal
 

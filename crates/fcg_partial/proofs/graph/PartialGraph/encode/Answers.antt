@@ -2,9 +2,8 @@ use Rattle.std.proofs.Common.{rules, ◌≡◌, ℕ, List, ap, ◌∙◌}
 use Rattle.std.specs.Prelude.{Ok}
 use Rattle.fcg_grammar.specs.Reading.{seen}
 use Rattle.fcg_views.specs.declared.view.View.{View}
-use Rattle.fcg_partial.specs.Views.{shown}
+use Rattle.fcg_partial.specs.Views.{shown, text_of}
 use Rattle.fcg_partial.specs.Reading.{graph_at}
-use Rattle.fcg_partial.specs.Kept.{text_of}
 use Rattle.fcg_partial.proofs.KeptLaws.{kept_text, read_gives}
 use Rattle.fcg_partial.proofs.graph.PartialGraph.encode.Goals as goal
 

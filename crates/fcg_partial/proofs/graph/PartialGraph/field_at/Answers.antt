@@ -1,4 +1,4 @@
-use Rattle.fcg_partial.specs.Kept.{text_of}
+use Rattle.fcg_partial.specs.Views.{text_of}
 use Rattle.fcg_partial.proofs.AccessLaws.{field_there}
 use Rattle.fcg_partial.proofs.graph.PartialGraph.field_at.Goals as goal
 

@@ -2,7 +2,7 @@ use Rattle.std.proofs.Common.{ℕ, List, length, sym, ap, subst, ◌∙◌, arit
 use Rattle.fcg_grammar.specs.Spell.{IsBytes}
 use Rattle.fcg_partial.specs.Views.{graph_of}
 use Rattle.fcg_partial.specs.Reading.{views_in}
-use Rattle.fcg_partial.specs.Kept.{IsIndex}
+use Rattle.fcg_partial.specs.Internal.Representation.{IsIndex}
 use Rattle.fcg_partial.proofs.KeptLaws.{text_read, text_views, no_fault}
 use Rattle.fcg_partial.proofs.graph.PartialGraph.from_views.Goals as goal
 

@@ -1,6 +1,6 @@
 use Rattle.std.proofs.Common.{rules, ◌<◌, ℕ, List, get_or, sym, ap, subst, ◌∙◌}
 use Rattle.std.specs.Prelude.{Some}
-use Rattle.fcg_partial.specs.Places.{text_at, HasText}
+use Rattle.fcg_partial.specs.Internal.RowPlaces.{text_at, HasText}
 use Rattle.fcg_partial.proofs.AccessLaws.{name_many, name_there}
 use Rattle.fcg_partial.proofs.graph.PartialGraph.name_at.Goals as goal
 

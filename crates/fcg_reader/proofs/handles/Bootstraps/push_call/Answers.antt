@@ -1,7 +1,7 @@
 use Rattle.std.proofs.Common.{◌+◌, ℕ, length, refl, sym, ap, ◌∙◌}
 use Rattle.std.specs.Prelude.{Ok, Err}
 use Rattle.std.proofs.lemmas.Result.{err_from_is_err_and}
-use Rattle.fcg_reader.specs.Handles.{BootstrapsIn, bootstraps}
+use Rattle.fcg_reader.specs.Internal.Handles.{BootstrapsIn, bootstraps}
 use Rattle.fcg_reader.proofs.HandleLemmas.{row_known, row_missing, row_everywhere, call_missing, call_fails, call_known, kept_more}
 use Rattle.fcg_reader.proofs.handles.Bootstraps.push_call.Goals as goal
 

@@ -1,6 +1,6 @@
 use Rattle.std.proofs.Common.{ap, ◌∙◌}
 use Rattle.std.specs.List.{list_any}
-use Rattle.fcg_reader.specs.Methods.{Table, methods_of, is_signature}
+use Rattle.fcg_reader.specs.Internal.Methods.{Table, methods_of, is_signature}
 use Rattle.fcg_reader.proofs.MethodLemmas.{IsTable-grown, signed}
 use Rattle.fcg_reader.proofs.methods.MethodTable.has.Goals as goal
 

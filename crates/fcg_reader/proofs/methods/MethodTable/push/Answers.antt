@@ -3,8 +3,8 @@ use Rattle.fcg_views.specs.declared.view.Method.{Method}
 use Rattle.fcg_views.specs.declared.view.Site.{Site}
 use Rattle.fcg_views.specs.Valid.{site_count}
 use Rattle.fcg_classfile.specs.Breaks.Members.{Unfinished}
-use Rattle.fcg_reader.specs.Firsts.{first_in}
-use Rattle.fcg_reader.specs.Methods.{Table, methods_of, AreSignatures}
+use Rattle.fcg_reader.specs.Internal.FirstIndexes.{first_in}
+use Rattle.fcg_reader.specs.Internal.Methods.{Table, methods_of, AreSignatures}
 use Rattle.fcg_reader.proofs.MethodLemmas.{AreSignatures-grown, AllOfTexts-grown, AreSignatures-push, AllOfTexts-push, IsTable-grown, IsTable-same, site_count-push, site_count-few, methods_of-push}
 use Rattle.fcg_reader.proofs.methods.MethodTable.push.Goals as goal
 

@@ -6,9 +6,9 @@ use Rattle.fcg_views.specs.declared.view.HandleKind.TheVariants.{K5, K6, K7, K8,
 use Rattle.fcg_views.specs.declared.view.Method.{Method}
 use Rattle.fcg_views.specs.declared.view.Site.{Site}
 use Rattle.fcg_views.specs.declared.view.View.{View}
-use Rattle.fcg_analysis.specs.Says.{Placed, object_name}
-use Rattle.fcg_analysis.specs.Short.{call, interface_call, method, open_method, abstract_method, static_method, type_with, class_of, class_below, class_with, abstract_class, interface_of, object_of, release}
-use Rattle.fcg_analysis.specs.Sets.{self_call}
+use Rattle.fcg_analysis.specs.Declarations.{Placed, object_name}
+use Rattle.fcg_analysis.specs.Cases.ShortForm.{call, interface_call, method, open_method, abstract_method, static_method, type_with, class_of, class_below, class_with, abstract_class, interface_of, object_of, release}
+use Rattle.fcg_analysis.specs.Cases.Sets.{self_call}
 
 -- p/T with one method that has these sites
 abbrev caller : List Site → View

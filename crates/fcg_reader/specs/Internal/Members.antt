@@ -5,14 +5,14 @@ use Rattle.fcg_grammar.specs.Reading.{Fails}
 use Rattle.fcg_views.specs.declared.view.Site.{Site}
 use Rattle.fcg_classfile.specs.declared.fault.ClassFault.{ClassFault}
 use Rattle.fcg_classfile.specs.Sites.{Found}
-use Rattle.fcg_pool.specs.Seen.{IsTextOf}
+use Rattle.fcg_pool.specs.CodeValues.{IsTextOf}
 use Rattle.fcg_classfile.specs.Breaks.Pool.{Entries}
 use Rattle.fcg_classfile.specs.Breaks.Attributes.{OneBegun}
 use Rattle.fcg_classfile.specs.Breaks.Members as members
 use Rattle.fcg_classfile.specs.Breaks.Members.{Unfinished, Begun}
 use Rattle.fcg_reader.specs.declared.declared.Declared.{Declared}
-use Rattle.fcg_reader.specs.Calls.{parts_of}
-use Rattle.fcg_reader.specs.Methods.{methods_of}
+use Rattle.fcg_reader.specs.Internal.Calls.{parts_of}
+use Rattle.fcg_reader.specs.Internal.Methods.{methods_of}
 
 -- what the code declares, as that of the definition
 abbrev pub declared_of : Declared → members.Declared

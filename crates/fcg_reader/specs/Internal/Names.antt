@@ -1,6 +1,6 @@
 -- What is known of a pool's texts: the file's bytes, of which names are made, and the descriptors that were found.
 use Rattle.std.specs.Prelude.{◌≡◌, ℕ, List, Bool, true, false, slice_index_or, Ok}
-use Rattle.fcg_views.specs.DescSteps.{is_descriptor, is_field_descriptor}
+use Rattle.fcg_views.specs.DescriptorSteps.{is_descriptor, is_field_descriptor}
 use Rattle.fcg_classfile.specs.Breaks.Pool.{Entries, text_of}
 use Rattle.fcg_reader.specs.declared.names.DescKind.{DescKind}
 use Rattle.fcg_reader.specs.declared.names.DescKind.TheVariants.{Field, Method}

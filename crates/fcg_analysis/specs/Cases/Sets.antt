@@ -3,8 +3,8 @@ use Rattle.std.specs.Prelude.{List, [], ◌∷◌, ◌++◌}
 use Rattle.fcg_views.specs.declared.view.SiteKind.TheVariants.{Virtual, Interface, Special, Static, Handle}
 use Rattle.fcg_views.specs.declared.view.HandleKind.TheVariants.{K6}
 use Rattle.fcg_views.specs.declared.view.View.{View}
-use Rattle.fcg_analysis.specs.Says.{Placed}
-use Rattle.fcg_analysis.specs.Short.{call, interface_call, made, method, open_method, abstract_method, static_method, class_of, class_below, class_with, interface_of, object_of, release}
+use Rattle.fcg_analysis.specs.Declarations.{Placed}
+use Rattle.fcg_analysis.specs.Cases.ShortForm.{call, interface_call, made, method, open_method, abstract_method, static_method, class_of, class_below, class_with, interface_of, object_of, release}
 
 -- a method that calls itself
 abbrev pub self_call : List Placed

@@ -8,7 +8,7 @@ use Rattle.fcg_views.specs.declared.view.Site.{Site}
 use Rattle.fcg_views.specs.declared.view.Ref.{Ref}
 use Rattle.fcg_views.specs.declared.view.SiteKind.{SiteKind}
 use Rattle.fcg_views.specs.declared.view.SiteKind.TheVariants.{New}
-use Rattle.fcg_analysis.specs.Says.{Placed, object_name}
+use Rattle.fcg_analysis.specs.Declarations.{Placed, object_name}
 use Rattle.fcg_analysis.specs.Types.{chain, is_below}
 use Rattle.fcg_analysis.specs.Nodes.{nodes}
 use Rattle.fcg_analysis.specs.Selection.{can_override}

@@ -3,7 +3,7 @@ use Rattle.std.specs.Prelude.{ℕ, List, [], ◌∷◌, ◌++◌, Bool, false, n
 use Rattle.fcg_views.specs.declared.view.View.{View}
 use Rattle.fcg_views.specs.declared.view.Method.{Method}
 use Rattle.fcg_views.specs.declared.view.Ref.{Ref}
-use Rattle.fcg_analysis.specs.Words.{same, has}
+use Rattle.fcg_analysis.specs.NamesAndFlags.{same, has}
 
 -- a view, with the coordinate of the release of the set that has it
 pub record Placed : Type 0 where

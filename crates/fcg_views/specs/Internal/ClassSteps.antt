@@ -2,8 +2,8 @@
 use Rattle.std.specs.Prelude.{◌≡◌, ◌≤◌, ◌<◌, ℕ, List, length, drop, Option, Some, None}
 use Rattle.fcg_views.specs.declared.descriptor.DescState.{DescState}
 use Rattle.fcg_views.specs.declared.descriptor.DescState.TheVariants.{Start, Parameters, Array, Name, Returned, ReturnedArray, ReturnedName, Done}
-use Rattle.fcg_views.specs.DescBounds.{IsSmall}
-use Rattle.fcg_views.specs.DescSteps.{taken, scan_from}
+use Rattle.fcg_views.specs.Internal.DescriptorBounds.{IsSmall}
+use Rattle.fcg_views.specs.DescriptorSteps.{taken, scan_from}
 
 -- the state after a whole class, from its `L` to its `;`
 abbrev pub class_step : DescState → Option DescState

@@ -4,15 +4,13 @@ use Rattle.std.specs.List.{AllByRecursion}
 use Rattle.fcg_grammar.specs.declared.error.ReadError.{ReadError}
 use Rattle.fcg_grammar.specs.Reading.{Fails}
 use Rattle.fcg_grammar.specs.Spell.{IsBytes}
-use Rattle.fcg_views.specs.declared.view.View.{View}
 use Rattle.fcg_partial.specs.declared.fault.RecordFault.{RecordFault}
 use Rattle.fcg_partial.specs.declared.index.Index.{Index}
 use Rattle.fcg_partial.specs.declared.types.Places.{Places}
-use Rattle.fcg_partial.specs.Graph.{Graph, spelling}
-use Rattle.fcg_partial.specs.Views.{graph_of}
+use Rattle.fcg_partial.specs.Graph.{Graph}
 use Rattle.fcg_partial.specs.Reading.{graph_at, names_at, refs_at}
-use Rattle.fcg_partial.specs.Places.{text_at, HasText, Follow, start}
-use Rattle.fcg_partial.specs.Marks.{ArePlaces, Marked, refs_read, refs_uses}
+use Rattle.fcg_partial.specs.Internal.RowPlaces.{text_at, HasText, Follow, start}
+use Rattle.fcg_partial.specs.Internal.UsedNumbers.{ArePlaces, Marked, refs_read, refs_uses}
 use Rattle.fcg_partial.specs.Fault.{u2_at, u4_at}
 
 -- The bytes are a stored graph, and these are the places of its names, of the count of its references, of its types and
@@ -56,7 +54,3 @@ pub record IsKept (bytes : List ℕ) (index : Index) : Type 0 where
   pub are : IsBytes bytes
   pub small : length bytes < 2 ^ 32
   pub indexed : IsIndex bytes index.names.items index.refs index.places
-
--- the spelling of a list of views
-unfoldable pub text_of : List View → List ℕ
-text_of views = spelling (graph_of views)

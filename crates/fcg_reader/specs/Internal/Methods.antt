@@ -10,7 +10,7 @@ use Rattle.fcg_views.specs.declared.view.Method.{Method}
 use Rattle.fcg_views.specs.Valid.{site_count}
 use Rattle.fcg_classfile.specs.Breaks.Pool.{Entries}
 use Rattle.fcg_classfile.specs.Breaks.Members.{Unfinished}
-use Rattle.fcg_reader.specs.Firsts.{Known, first_in, AreAsked}
+use Rattle.fcg_reader.specs.Internal.FirstIndexes.{Known, first_in, AreAsked}
 
 -- the method has this name and descriptor
 abbrev pub is_signature : List ℕ → List ℕ → Method → Bool

@@ -1,0 +1,5 @@
+-- Words of the contracts of private functions: no public contract needs them.
+pub mod RowPlaces
+pub mod Representation
+pub mod UsedNumbers
+pub mod NameTable

@@ -1,0 +1,10 @@
+-- Words of the contracts of private functions: no public contract needs them.
+pub mod FirstIndexes
+pub mod Names
+pub mod Attributes
+pub mod Calls
+pub mod Methods
+pub mod Members
+pub mod Class
+pub mod Sites
+pub mod Handles

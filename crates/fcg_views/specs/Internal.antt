@@ -1,0 +1,4 @@
+-- Words of the contracts of private functions: no public contract needs them.
+pub mod EscapeTables
+pub mod ClassSteps
+pub mod DescriptorBounds

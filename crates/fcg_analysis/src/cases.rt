@@ -1,5 +1,5 @@
 //! Worked cases: small sets of which the definitions give the numbers that are expected.
-#![tactic(auto, unfolding(crate::specs::Computed::analysis))]
+#![tactic(auto, unfolding(crate::specs::Cases::Computed::analysis))]
 
 ghost use Rattle.std.specs.Prelude.{◌≡◌, ℕ, List, [], ◌∷◌, Option, Some, None, map, codes, true, length};
 ghost use Rattle.fcg_analysis.specs.Types.{known, named, has_gap};

@@ -1,6 +1,6 @@
 //! Worked cases of the rules that can be read in two ways: each set gives one answer by the reading that is taken, and
 //! another by the other.
-#![tactic(auto, unfolding(crate::specs::Computed::analysis))]
+#![tactic(auto, unfolding(crate::specs::Cases::Computed::analysis))]
 
 ghost use Rattle.std.specs.Prelude.{◌≡◌, ℕ, List, [], ◌∷◌, Option, Some, None, map, codes, true, false, length};
 ghost use Rattle.fcg_analysis.specs.Types.{known, named, has_gap};

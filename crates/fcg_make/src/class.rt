@@ -78,7 +78,7 @@ fn push_members(
 }
 
 // The whole class file, by the entries of its pool and its rows of bootstrap methods.
-#[tactic(auto, unfolding(crate::specs::Parts::file_part))]
+#[tactic(auto, unfolding(crate::specs::Internal::Parts::file_part))]
 fn write_file(
     alloc: Global,
     table: &EntryTable,

@@ -72,7 +72,7 @@ fn is_same(name: &[u8], word: &[u8]) -> bool
 /// content. `again` says that an attribute of this name stood before: then a second one is the fault `twice` at its
 /// name. Its content, from six bytes after its place on, isn't looked at. Takes a few loads and a comparison of its
 /// name.
-#[tactic(auto, unfolding(crate::specs::Attributes::begun_one))]
+#[tactic(auto, unfolding(crate::specs::Internal::Attributes::begun_one))]
 pub fn begin_one(
     pool: &Pool<'_>,
     bytes: &[u8],

@@ -3,7 +3,7 @@
 #![tactic(auto, unfolding(crate::specs::Cases::Computed::analysis))]
 
 ghost use Rattle.std.specs.Prelude.{◌≡◌, ℕ, List, [], ◌∷◌, Option, Some, None, map, codes, true, false, length};
-ghost use Rattle.fcg_analysis.specs.Types.{known, named, has_gap};
+ghost use Rattle.fcg_analysis.specs.Types.{known, type_named, has_gap};
 ghost use Rattle.fcg_analysis.specs.Nodes.{nodes};
 ghost use Rattle.fcg_analysis.specs.Resolution.{KindMismatch, NoSuchMethod, Failed, resolved};
 ghost use Rattle.fcg_analysis.specs.Edges.{IsNoCall, IsMethod, IsPhantom, IsFailed, edges, statuses, failed};
@@ -36,8 +36,8 @@ pub fn release_twice_case()
 /// interface beside another superclass does.
 pub fn named_twice_case()
     ensures statuses { statuses (known named_twice) ≡ IsFailed NoSuchMethod ∷ IsFailed NoSuchMethod ∷ IsPhantom ∷ [] }
-    ensures linked { chain_names (known named_twice) (named (known named_twice) (codes "p/A")) ≡ Some (names ("p/A" ∷ "p/N" ∷ "java/lang/Object" ∷ [])) }
-    ensures unlinked { chain_names (known named_twice) (named (known named_twice) (codes "p/B")) ≡ Some (names ("p/B" ∷ "java/lang/Object" ∷ [])) }
+    ensures linked { chain_names (known named_twice) (type_named (known named_twice) (codes "p/A")) ≡ Some (names ("p/A" ∷ "p/N" ∷ "java/lang/Object" ∷ [])) }
+    ensures unlinked { chain_names (known named_twice) (type_named (known named_twice) (codes "p/B")) ≡ Some (names ("p/B" ∷ "java/lang/Object" ∷ [])) }
 {}
 
 /// Object is added to a chain that ends before it, so its methods are found, whatever their flags, and selected before a

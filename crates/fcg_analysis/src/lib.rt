@@ -33,9 +33,13 @@ pub use choices::{
     virtual_init_case,
 };
 pub use conditions::{
-    array_kinds_case, class_beside_default_case, default_below_absent_case, gap_above_case,
-    interface_init_case, special_default_case, special_failures_case, special_interface_ref_case,
-    special_own_case, static_below_absent_case, static_call_of_instance_case,
+    absent_init_case, array_kinds_case, class_before_default_case, class_beside_default_case,
+    class_beside_receiver_case, default_below_absent_case, found_in_interfaces_case,
+    gap_above_case, gap_of_interface_above_case, inner_packages_case, interface_below_beside_case,
+    interface_init_case, interface_of_superclass_case, named_above_case, overloads_case,
+    private_above_case, special_absent_interface_case, special_default_case, special_failures_case,
+    special_interface_ref_case, special_own_case, special_superclass_default_case,
+    static_below_absent_case, static_call_of_instance_case,
 };
 pub use laws::{
     above_goes_on, above_is_transitive, above_is_walks, chains_go_on, circles_are_of_one_kind,

@@ -31,6 +31,11 @@ pub fn doubled_class_turned_case()
     ensures releases { map (λ m. (identity m).coordinate) (nodes (known doubled_class_turned)) ≡ names ("g:b:1" ∷ "g:b:1" ∷ []) }
 {}
 
+/// A node is named by its coordinate, class, name and descriptor.
+pub fn identity_case()
+    ensures { map identity (nodes (known self_call)) ≡ record { coordinate = codes "g:a:1"; class = codes "p/A"; name = codes "m"; desc = codes "()V" } ∷ [] }
+{}
+
 /// A call of an absent interface's method may reach the method of each class that names the interface.
 pub fn absent_interface_case()
     ensures edges { edges (known absent_interface) ≡ (2, 0) ∷ (2, 1) ∷ [] }

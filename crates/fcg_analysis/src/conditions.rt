@@ -6,7 +6,7 @@ ghost use Rattle.fcg_analysis.specs.Types.{known};
 ghost use Rattle.fcg_analysis.specs.Resolution.{KindMismatch, NoSuchMethod, resolved};
 ghost use Rattle.fcg_analysis.specs.Edges.{IsMethod, IsPhantom, IsFailed, edges, statuses};
 ghost use Rattle.fcg_analysis.specs.Cases.ShortForm.{number_in, overrides, method_ref, interface_ref};
-ghost use Rattle.fcg_analysis.specs.Cases.Conditions.{overloads, inner_packages, gap_of_interface_above, named_above, class_beside_receiver, interface_below_beside, interface_of_superclass, found_in_interfaces, private_above, class_before_default, special_superclass_default, absent_init, special_absent_interface, gap_above, static_below_absent, default_below_absent, class_beside_default, special_mismatch, special_absent_method, special_interface_ref, special_own, special_default, special_object_first, interface_init, static_call_of_instance, array_kinds};
+ghost use Rattle.fcg_analysis.specs.Cases.Conditions.{overloads, inner_packages, gap_of_interface_above, named_above, class_beside_receiver, phantom_of_known, own_before_object, interface_below_beside, interface_of_superclass, found_in_interfaces, private_above, private_of_interface, class_before_default, phantom_by_name, object_below_phantom, special_object_at_the_end, special_superclass_default, absent_init, special_absent_interface, gap_above, static_below_absent, default_below_absent, class_beside_default, special_mismatch, special_absent_method, special_interface_ref, special_own, special_default, special_object_first, interface_init, static_call_of_instance, array_kinds};
 
 /// Methods of one name are told apart by their descriptors.
 pub fn overloads_case()
@@ -38,6 +38,17 @@ pub fn class_beside_receiver_case()
     ensures edges { edges (known class_beside_receiver) ≡ (2, 0) ∷ [] }
 {}
 
+/// A phantom of a known class is dispatched to the classes below that.
+pub fn phantom_of_known_case()
+    ensures edges { edges (known phantom_of_known) ≡ (1, 0) ∷ [] }
+    ensures statuses { statuses (known phantom_of_known) ≡ IsPhantom ∷ [] }
+{}
+
+/// What the class has itself comes before Object's.
+pub fn own_before_object_case()
+    ensures edges { edges (known own_before_object) ≡ (2, 1) ∷ [] }
+{}
+
 /// A method of an interface that isn't above the class makes none less specific.
 pub fn interface_below_beside_case()
     ensures edges { edges (known interface_below_beside) ≡ (2, 0) ∷ [] }
@@ -62,6 +73,11 @@ pub fn private_above_case()
     ensures { overrides (known private_above) 1 0 ≡ false }
 {}
 
+/// A private method of an interface is found in that interface, and selected itself.
+pub fn private_of_interface_case()
+    ensures edges { edges (known private_of_interface) ≡ (1, 0) ∷ [] }
+{}
+
 /// A class's own method comes before the default for a phantom too.
 pub fn class_before_default_case()
     ensures edges { edges (known class_before_default) ≡ (2, 1) ∷ [] }
@@ -71,6 +87,17 @@ pub fn class_before_default_case()
 pub fn static_below_absent_case()
     ensures edges { edges (known static_below_absent) ≡ [] }
     ensures statuses { statuses (known static_below_absent) ≡ IsPhantom ∷ [] }
+{}
+
+/// Only methods of its name and descriptor override a phantom.
+pub fn phantom_by_name_case()
+    ensures edges { edges (known phantom_by_name) ≡ (2, 1) ∷ [] }
+{}
+
+/// For a phantom too the chain ends with Object.
+pub fn object_below_phantom_case()
+    ensures edges { edges (known object_below_phantom) ≡ (1, 0) ∷ [] }
+    ensures statuses { statuses (known object_below_phantom) ≡ IsPhantom ∷ [] }
 {}
 
 /// Where no class overrides a phantom the one default is selected.
@@ -106,6 +133,11 @@ pub fn special_own_case()
 pub fn special_default_case()
     ensures default_one { edges (known special_default) ≡ (1, 0) ∷ [] }
     ensures object_first { edges (known special_object_first) ≡ (1, 2) ∷ [] }
+{}
+
+/// In a special call too the chain ends with Object.
+pub fn special_object_at_the_end_case()
+    ensures edges { edges (known special_object_at_the_end) ≡ (1, 0) ∷ [] }
 {}
 
 /// A special call finds the default that the superclass has.

@@ -1,19 +1,20 @@
 //! The rules of the analysis, over a list of views with their coordinates: which types a set has, what a site's reference
 //! resolves to, which methods a call may reach, the edges between methods, and the methods that reach a target. specs/ has
 //! a definition for each. Beside them stand worked cases, which the definitions compute to their numbers; cases that tell
-//! two readings of a rule apart, and a rule from one with a condition less; and laws that hold of all lists of views. The crate has no code that runs: each function
-//! is empty, and its contract is the law. It stands on the words of formats and on the views.
+//! two readings of a rule apart, and a rule from one with a condition less; and laws that hold of all lists of views. The
+//! crate has no code that runs: each function is empty, and its contract is the law. It stands on the words of formats and
+//! on the views.
 //! In proofs/General are lemmas on lists, on numbers in a row, on lists that rise and on walks, for every crate above.
 #![tactic(auto)]
 
 mod cases;
 mod choices;
-mod conditions;
+pub mod conditions;
 mod laws;
 
 pub use cases::{
     absent_interface_case, circular_types_case, default_below_case, default_beside_abstract_case,
-    doubled_class_case, doubled_class_turned_case, lambda_case, logging_set_case,
+    doubled_class_case, doubled_class_turned_case, identity_case, lambda_case, logging_set_case,
     object_present_case, package_private_case, private_and_static_case, resolution_outcomes_case,
     self_call_case, special_super_case, special_super_moved_case, two_chains_case,
     two_defaults_case,
@@ -31,15 +32,6 @@ pub use choices::{
     special_interface_case, special_of_object_case, special_search_case,
     static_beside_default_case, static_between_case, superclass_interface_case, unrelated_case,
     virtual_init_case,
-};
-pub use conditions::{
-    absent_init_case, array_kinds_case, class_before_default_case, class_beside_default_case,
-    class_beside_receiver_case, default_below_absent_case, found_in_interfaces_case,
-    gap_above_case, gap_of_interface_above_case, inner_packages_case, interface_below_beside_case,
-    interface_init_case, interface_of_superclass_case, named_above_case, overloads_case,
-    private_above_case, special_absent_interface_case, special_default_case, special_failures_case,
-    special_interface_ref_case, special_own_case, special_superclass_default_case,
-    static_below_absent_case, static_call_of_instance_case,
 };
 pub use laws::{
     above_goes_on, above_is_transitive, above_is_walks, chains_go_on, circles_are_of_one_kind,

@@ -3,7 +3,7 @@ use Rattle.std.specs.Prelude.{List, [], ◌∷◌}
 use Rattle.fcg_views.specs.declared.view.SiteKind.TheVariants.{Virtual, Interface, Special, Static}
 use Rattle.fcg_views.specs.declared.view.View.{View}
 use Rattle.fcg_analysis.specs.Declarations.{Placed}
-use Rattle.fcg_analysis.specs.Cases.ShortForm.{call, interface_call, open_method, abstract_method, static_method, class_of, class_below, class_with, abstract_class, interface_of, object_of, release, caller, k_calling, m, abstract_m, package_m, private_m, static_m}
+use Rattle.fcg_analysis.specs.Cases.ShortForm.{call, interface_call, method, open_method, abstract_method, static_method, class_of, class_below, class_with, abstract_class, interface_of, object_of, release, caller, k_calling, m, abstract_m, package_m, private_m, static_m}
 
 -- ---- Names and descriptors
 
@@ -65,6 +65,24 @@ class_beside_receiver = release "g:a:1" (
     ∷ caller (call Virtual "p/B" "m" "()V" ∷ [])
     ∷ [])
 
+-- a class with a gap in which nothing is found, and one below it that has the method
+abbrev pub phantom_of_known : List Placed
+phantom_of_known = release "g:a:1" (
+    class_below "x/Y" "p/A" []
+    ∷ class_below "p/A" "p/B" (m ∷ [])
+    ∷ caller (call Virtual "p/A" "m" "()V" ∷ [])
+    ∷ [])
+
+-- ---- Resolution
+
+-- a static method of a class, which Object has as an instance method
+abbrev pub own_before_object : List Placed
+own_before_object = release "g:a:1" (
+    object_of (m ∷ [])
+    ∷ class_of "p/A" (static_m ∷ [])
+    ∷ caller (call Static "p/A" "m" "()V" ∷ [])
+    ∷ [])
+
 -- ---- Superinterface methods
 
 -- a default of an interface, with another interface below that, of which the class isn't
@@ -101,6 +119,13 @@ found_in_interfaces = release "g:a:1" (
 abbrev pub private_above : List Placed
 private_above = release "g:a:1" (class_of "p/A" (private_m ∷ []) ∷ class_below "p/A" "p/B" (m ∷ []) ∷ [])
 
+-- an interface that calls its own private method, and a class that implements it
+abbrev pub private_of_interface : List Placed
+private_of_interface = release "g:a:1" (
+    interface_of "p/I" [] (private_m ∷ method 0x0001 "k" "()V" (interface_call Interface "p/I" "m" "()V" ∷ []) ∷ [])
+    ∷ class_with "java/lang/Object" ("p/I" ∷ []) "p/A" (m ∷ [])
+    ∷ [])
+
 -- a class below an absent class that has the method itself, beside a default
 abbrev pub class_before_default : List Placed
 class_before_default = release "g:a:1" (
@@ -113,6 +138,21 @@ class_before_default = release "g:a:1" (
 abbrev pub static_below_absent : List Placed
 static_below_absent = release "g:a:1" (
     class_below "x/Y" "p/A" (static_m ∷ [])
+    ∷ caller (call Virtual "x/Y" "m" "()V" ∷ [])
+    ∷ [])
+
+-- a class below an absent class that has two methods
+abbrev pub phantom_by_name : List Placed
+phantom_by_name = release "g:a:1" (
+    class_below "x/Y" "p/A" (open_method "n" "()V" ∷ m ∷ [])
+    ∷ caller (call Virtual "x/Y" "m" "()V" ∷ [])
+    ∷ [])
+
+-- a class below an absent class, with a method of Object
+abbrev pub object_below_phantom : List Placed
+object_below_phantom = release "g:a:1" (
+    object_of (m ∷ [])
+    ∷ class_below "x/Y" "p/A" []
     ∷ caller (call Virtual "x/Y" "m" "()V" ∷ [])
     ∷ [])
 
@@ -177,6 +217,14 @@ special_default = default_by_interface []
 
 abbrev pub special_object_first : List Placed
 special_object_first = default_by_interface (object_of (m ∷ []) ∷ [])
+
+-- a method of Object, of a superclass that has an absent superclass
+abbrev pub special_object_at_the_end : List Placed
+special_object_at_the_end = release "g:a:1" (
+    object_of (m ∷ [])
+    ∷ class_below "x/Absent" "p/P" []
+    ∷ class_below "p/P" "p/C" (k_calling (call Special "p/P" "m" "()V"))
+    ∷ [])
 
 -- a default that the superclass has
 abbrev pub special_superclass_default : List Placed

@@ -15,7 +15,7 @@ use Rattle.fcg_classfile.specs.declared.fault.ClassFault.{ClassFault}
 use Rattle.fcg_class.specs.declared.bundle.Ahead.{Ahead}
 use Rattle.fcg_class.specs.declared.bundle.BundleFault.{BundleFault}
 use Rattle.fcg_class.specs.declared.bundle.BundleFault.TheVariants.{Class}
-use Rattle.fcg_class.specs.Bundle.{some_of, Begun}
+use Rattle.fcg_class.specs.Bundle.{some_of, EntriesBefore}
 use Rattle.fcg_views.specs.Valid.{is_same}
 
 abbrev pub path_cmp : Bor (List ℕ) → Bor (List ℕ) → Ordering
@@ -26,23 +26,23 @@ abbrev pub ArePaths : BTreeSet (Bor (List ℕ)) → List (List ℕ) → Type 0
 ArePaths set paths = (p : Bor (List ℕ)) → tree.contains path_cmp set p ≡ list_any (λ q. is_same q p.now) paths
 
 -- before an entry: its place, the number of sites that the class files may still have, and the paths of those before
-abbrev pub begun : Ahead → List (List ℕ) → Begun
-begun ahead paths = record { at = ahead.at; paths = paths; room = ahead.room }
+abbrev pub entries_before : Ahead → List (List ℕ) → EntriesBefore
+entries_before ahead paths = record { at = ahead.at; paths = paths; room = ahead.room }
 
-abbrev pub start : ℕ → Begun
-start at = record { at = at; paths = []; room = 4000000 }
+abbrev pub before_first : ℕ → EntriesBefore
+before_first at = record { at = at; paths = []; room = 4000000 }
 
 -- an entry more, and what is ahead after its entry, whose path is in the set; or the fault
-abbrev pub GivesEntry : Result (Option View × Ahead) (ReadError BundleFault) → BTreeSet (Bor (List ℕ)) → List (List ℕ) → Result (Option View × Begun) BundleFault → Type 0
-GivesEntry (Ok x) set paths read = (path : List ℕ) × ArePaths set (paths ++ path ∷ []) × (read ≡ Ok (x.0, begun x.1 (paths ++ path ∷ [])))
+abbrev pub GivesEntry : Result (Option View × Ahead) (ReadError BundleFault) → BTreeSet (Bor (List ℕ)) → List (List ℕ) → Result (Option View × EntriesBefore) BundleFault → Type 0
+GivesEntry (Ok x) set paths read = (path : List ℕ) × ArePaths set (paths ++ path ∷ []) × (read ≡ Ok (x.0, entries_before x.1 (paths ++ path ∷ [])))
 GivesEntry (Err e) set paths read = Fails e read
 
--- what a bundle is told of an error of an entry's class file
-abbrev pub told : ℕ → ReadError ClassFault → ReadError BundleFault
-told k errors.NoMemory = errors.NoMemory
-told k (errors.Fault f) = errors.Fault (Class k f)
+-- the error of a bundle where reading an entry's class file ended in an error
+abbrev pub error_in_entry : ℕ → ReadError ClassFault → ReadError BundleFault
+error_in_entry k errors.NoMemory = errors.NoMemory
+error_in_entry k (errors.Fault f) = errors.Fault (Class k f)
 
 -- The views that some entries show, and the place after them, whatever their paths; or the fault.
-abbrev pub GivesEntries : Result (List View × ℕ) (ReadError BundleFault) → Result (List (Option View) × Begun) BundleFault → Type 0
+abbrev pub GivesEntries : Result (List View × ℕ) (ReadError BundleFault) → Result (List (Option View) × EntriesBefore) BundleFault → Type 0
 GivesEntries (Ok x) read = (reads : List (Option View)) × (paths : List (List ℕ)) × (room : ℕ) × (x.0 ≡ flat_map some_of reads) × (read ≡ Ok (reads, record { at = x.1; paths = paths; room = room }))
 GivesEntries (Err e) read = Fails e read

@@ -79,76 +79,114 @@ fn write_on(sink: &mut MemorySink, bytes: &[u8]) -> Result<(), Failed>
     write_whole(sink, bytes)
 }
 
+const PIECES: &[usize] = &[0, 1, 4, 100];
+
+// Whether the text is read whole within 6 bytes, and is too long for 5.
+fn reads_within(alloc: Global, piece: usize) -> bool {
+    let whole = read_pieces(alloc, &TEXT, piece, 6).is_ok_and(|bytes| bytes.as_slice()
+        == TEXT.as_slice());
+    let refusal = read_pieces(alloc, &TEXT, piece, 5).err();
+    whole && refusal == Some(ReadAllRefusal::TooLong)
+}
+
 #[test]
 fn reads_all_within_the_limit(rt: HostRuntime) -> Result<(), Fail> {
-    for piece in [0, 1, 4, 100] {
-        let bytes = read_pieces(rt.alloc(), &TEXT, piece, 6)?;
-        assert_eq!(rt; bytes.as_slice(), TEXT.as_slice(), "in pieces of {piece}");
-        let refusal = read_pieces(rt.alloc(), &TEXT, piece, 5).err();
-        assert_eq!(rt;
-            refusal,
-            Some(ReadAllRefusal::TooLong),
-            "in pieces of {piece}"
+    for piece in PIECES {
+        assert!(rt; reads_within(rt.alloc(), *piece), "in pieces of {piece}");
+    }
+    Ok(())
+}
+
+// A source of the text in pieces of two bytes, whose second call fails.
+fn failing_source(alloc: Global) -> Result<MemorySource, Fail> {
+    let fail = [1].to_vec(alloc)?;
+    Ok(MemorySource::new(TEXT.to_vec(alloc)?, 2, fail))
+}
+
+#[test]
+fn reads_on_after_a_failure(rt: HostRuntime) -> Result<(), Fail> {
+    let mut source = failing_source(rt.alloc())?;
+    let refusal = read_all(rt.alloc(), &mut source, 6).err();
+    assert!(rt; refusal == Some(ReadAllRefusal::Failed));
+    let bytes = read_all(rt.alloc(), &mut source, 6)?;
+    assert!(rt; bytes.as_slice() == b"xbyt".as_slice());
+    Ok(())
+}
+
+// The call that fails, and how many bytes were taken.
+const FRONTS: &[(u64, usize)] = &[(0, 0), (2, 4), (3, 6)];
+
+fn failing_sink(alloc: Global, fail: u64) -> Trickle {
+    Trickle {
+        bytes: Vec::new(alloc),
+        calls: 0,
+        fail,
+        faults: 0,
+    }
+}
+
+#[test]
+fn writes_a_front(rt: HostRuntime) -> Result<(), Fail> {
+    for (fail, front) in FRONTS {
+        let mut sink = failing_sink(rt.alloc(), *fail);
+        let whole = write_whole(&mut sink, &TEXT).is_ok();
+        assert!(rt;
+            whole == (*front == 6) && TEXT.starts_with(&sink.bytes) && sink.bytes.len() == *front,
+            "at {fail}"
         );
     }
     Ok(())
 }
 
-#[test]
-fn reads_on_after_a_failure(rt: HostRuntime) -> Result<(), Fail> {
-    let fail = [1].to_vec(rt.alloc())?;
-    let mut source = MemorySource::new(TEXT.to_vec(rt.alloc())?, 2, fail);
-    let refusal = read_all(rt.alloc(), &mut source, 6).err();
-    assert_eq!(rt; refusal, Some(ReadAllRefusal::Failed));
-    let bytes = read_all(rt.alloc(), &mut source, 6)?;
-    assert_eq!(rt; bytes.as_slice(), b"xbyt".as_slice());
-    Ok(())
-}
+// Whether these bytes are taken, in this order.
+const WRITES: &[(&[u8], bool)] = &[
+    (b"four", true),
+    (b"two", false),
+    (b"four", false),
+    (b"two", true),
+];
 
-#[test]
-fn writes_a_front(rt: HostRuntime) -> Result<(), Fail> {
-    for (fail, front) in [(0, 0), (2, 4), (3, 6)] {
-        let mut sink = Trickle {
-            bytes: Vec::new(rt.alloc()),
-            calls: 0,
-            fail,
-            faults: 0,
-        };
-        let whole = write_whole(&mut sink, &TEXT).is_ok();
-        assert_eq!(rt; whole, front == 6, "at {fail}");
-        assert_eq!(rt; sink.bytes.as_slice(), &TEXT[..front], "at {fail}");
-    }
-    Ok(())
+// A sink with room for seven bytes, whose second call fails.
+fn small_sink(alloc: Global) -> Result<MemorySink, Fail> {
+    let fail = [1].to_vec(alloc)?;
+    Ok(MemorySink::new(alloc, 7, fail)?)
 }
 
 #[test]
 fn fills_its_room(rt: HostRuntime) -> Result<(), Fail> {
-    let fail = [1].to_vec(rt.alloc())?;
-    let mut sink = MemorySink::new(rt.alloc(), 7, fail)?;
-    assert_eq!(rt; write_on(&mut sink, b"four"), Ok(()));
-    assert_eq!(rt; write_on(&mut sink, b"two"), Err(Failed));
-    assert_eq!(rt; write_on(&mut sink, b"four"), Err(Failed));
-    assert_eq!(rt; write_on(&mut sink, b"two"), Ok(()));
-    assert_eq!(rt; sink.bytes(), b"fourtwo".as_slice());
+    let mut sink = small_sink(rt.alloc())?;
+    for (bytes, taken) in WRITES {
+        assert!(rt; write_on(&mut sink, bytes).is_ok() == *taken);
+    }
+    assert!(rt; sink.bytes() == b"fourtwo".as_slice());
     Ok(())
 }
 
 #[test]
-fn over_readers_and_writers(rt: HostRuntime) -> Result<(), Fail> {
-    let bytes = read_slice(rt.alloc(), &TEXT, 6)?;
-    assert_eq!(rt; bytes.as_slice(), TEXT.as_slice());
+fn over_readers(rt: HostRuntime) -> Result<(), Fail> {
+    let read = read_slice(rt.alloc(), &TEXT, 6);
+    assert!(rt; read.is_ok_and(|bytes| bytes.as_slice() == TEXT.as_slice()));
     let refusal = read_all(rt.alloc(), &mut StdSource::new(Broken), 6).err();
-    assert_eq!(rt; refusal, Some(ReadAllRefusal::Failed));
+    assert!(rt; refusal == Some(ReadAllRefusal::Failed));
+    Ok(())
+}
 
-    let mut written = Vec::new(rt.alloc());
+// What a writer without an end takes.
+fn written(alloc: Global) -> Result<Vec<u8>, Fail> {
+    let mut written = Vec::new(alloc);
     let mut sink = StdSink::new(&mut written);
-    assert_eq!(rt; write_whole(&mut sink, &TEXT), Ok(()));
-    assert_eq!(rt; written.as_slice(), TEXT.as_slice());
+    write_whole(&mut sink, &TEXT)?;
+    Ok(written)
+}
+
+#[test]
+fn over_writers(rt: HostRuntime) -> Result<(), Fail> {
+    assert!(rt; written(rt.alloc())?.as_slice() == TEXT.as_slice());
 
     // Such a writer takes none of the bytes once it is full.
     let mut room = [0; 4];
     let mut sink = StdSink::new(room.as_mut_slice());
-    assert_eq!(rt; write_whole(&mut sink, &TEXT), Err(Failed));
-    assert_eq!(rt; room.as_slice(), &TEXT[..4]);
+    assert!(rt; write_whole(&mut sink, &TEXT) == Err(Failed));
+    assert!(rt; TEXT.starts_with(&room));
     Ok(())
 }

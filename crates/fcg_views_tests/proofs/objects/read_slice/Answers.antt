@@ -1,6 +1,6 @@
 use Rattle.std.proofs.Common.{ap}
 use Rattle.fcg_bytes.proofs.Streams.{Consumes-to_end}
-use Rattle.fcg_bytes_tests.proofs.objects.read_slice.Goals as goal
+use Rattle.fcg_views_tests.proofs.objects.read_slice.Goals as goal
 
 pub returns-clause-ok : goal.returns-clause-ok
 returns-clause-ok c =

@@ -7,7 +7,7 @@ use Rattle.std.proofs.lemmas.Bool.{or_parts, false_from_ne_true}
 use Rattle.fcg_analysis.specs.NamesAndFlags.{contains}
 use Rattle.fcg_analysis.specs.Declarations.{Placed, is_type, is_class, is_interface, is_object, object_name, superclass_names}
 use Rattle.fcg_analysis.specs.Types.{extends, superclass, line, chain, object}
-use Rattle.fcg_analysis.specs.Laws.{IsAcyclic, line_above, chain_above}
+use Rattle.fcg_analysis.specs.Laws.Statements.{IsAcyclic, line_above, chain_above}
 use Rattle.fcg_analysis.proofs.General.Members.{Contains-from_IsIn, IsIn, and_first, and_second, find_in}
 use Rattle.fcg_analysis.proofs.LineLaws.{line_goes_on}
 use Rattle.fcg_analysis.proofs.WinnerLaws.{is_type_self, name_of_type}

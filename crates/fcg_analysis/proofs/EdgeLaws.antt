@@ -11,7 +11,7 @@ use Rattle.std.proofs.lemmas.Cmp.{nat_cmp_total, tied_itself}
 use Rattle.fcg_analysis.specs.Declarations.{Placed}
 use Rattle.fcg_analysis.specs.Nodes.{Node, nodes}
 use Rattle.fcg_analysis.specs.Edges.{edge, edges}
-use Rattle.fcg_analysis.specs.Laws.{IsEdge, edge_cmp}
+use Rattle.fcg_analysis.specs.Laws.Statements.{IsEdge, edge_cmp}
 use Rattle.fcg_analysis.proofs.General.Members.{IsIn, Contains-from_IsIn, IsIn-from_Contains, filter_in, flat_map_in, in_filter, in_flat_map, in_map, map_in}
 use Rattle.fcg_analysis.proofs.General.Sorted.{all_from_in, in_all, one_sorted, sorted_joined}
 use Rattle.fcg_analysis.proofs.NodeLaws.{Rising, nodes_rise, number_small}

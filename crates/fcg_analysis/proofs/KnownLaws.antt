@@ -3,13 +3,13 @@ use Rattle.std.proofs.Common.{◌≡◌, ℕ, List, refl, sym, ap, ◌∙◌}
 use Rattle.std.specs.Prelude.{Bool, true, false, not, cond, find, Option, Some, None}
 use Rattle.std.specs.Cmp.Lexicographic.{bytes_decides}
 use Rattle.fcg_analysis.specs.Declarations.{Placed, is_named}
-use Rattle.fcg_analysis.specs.Types.{winners, known, named, is_circular}
-use Rattle.fcg_analysis.specs.Laws.{unless_circular}
+use Rattle.fcg_analysis.specs.Types.{winners, known, type_named, is_circular}
+use Rattle.fcg_analysis.specs.Laws.Statements.{unless_circular}
 use Rattle.fcg_analysis.proofs.General.Members.{IsIn, find_filter, kept}
 use Rattle.fcg_analysis.proofs.OverrideLaws.{one_of_name}
 use Rattle.fcg_analysis.proofs.WinnerLaws.{winner_of, winners_distinct}
 
-pub known_of_name : (views : List Placed) (n : List ℕ) → named (known views) n ≡ unless_circular (winners views) (find (is_named n) views)
+pub known_of_name : (views : List Placed) (n : List ℕ) → type_named (known views) n ≡ unless_circular (winners views) (find (is_named n) views)
 unfolding known
 known_of_name views n =
     find_filter (is_named n) (λ t. not (is_circular types t)) types one ∙ ap (kept (λ t. not (is_circular types t))) (winner_of views n) ∙ same (find (is_named n) views)

@@ -6,7 +6,7 @@ use Rattle.std.proofs.lemmas.Bool.{or_left, false_from_ne_true}
 use Rattle.fcg_analysis.specs.Walks.{Walk, step}
 use Rattle.fcg_analysis.specs.Declarations.{Placed}
 use Rattle.fcg_analysis.specs.Types.{links, extends, implements, above, superclass, superclass_line, line}
-use Rattle.fcg_analysis.specs.Laws.{IsAcyclic, line_above}
+use Rattle.fcg_analysis.specs.Laws.Statements.{IsAcyclic, line_above}
 use Rattle.fcg_analysis.proofs.General.Members.{Contains-from_IsIn, IsIn, IsIn-from_Contains, filter_in, find_in, in_filter, length-filter_less, same_or_more_in}
 use Rattle.fcg_analysis.proofs.General.Walking.{closed, led_from_walk, walk_from_led, walk_joined}
 

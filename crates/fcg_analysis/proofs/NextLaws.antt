@@ -5,7 +5,7 @@ use Rattle.std.specs.List.{range_with_len}
 use Rattle.std.proofs.lemmas.Bool.{and_from, false_from_ne_true}
 use Rattle.std.proofs.lemmas.Bool.Decides.{Decides-eqb}
 use Rattle.fcg_analysis.specs.Reach.{Edges, leads, dist, next, is_next_of, WalkOf, here, onward}
-use Rattle.fcg_analysis.specs.Laws.{IsNext}
+use Rattle.fcg_analysis.specs.Laws.Statements.{IsNext}
 use Rattle.fcg_analysis.proofs.General.Members.{and_first, and_second, find_none}
 use Rattle.fcg_analysis.proofs.General.Ranges.{find_least, range_in}
 use Rattle.fcg_analysis.proofs.ReachLaws.{dist_is_least}

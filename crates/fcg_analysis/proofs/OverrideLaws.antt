@@ -10,8 +10,8 @@ use Rattle.fcg_analysis.specs.NamesAndFlags.{same, before, package_of}
 use Rattle.fcg_analysis.specs.Declarations.{Placed, is_type, is_instance, is_private, is_public, is_protected, is_package_private, has_signature, signature_of}
 use Rattle.fcg_analysis.specs.Types.{chain, superclass}
 use Rattle.fcg_analysis.specs.Nodes.{Node, nodes, nodes_from}
-use Rattle.fcg_analysis.specs.Selection.{between, same_package, overrides_itself, may_override, overrides_over, can_override}
-use Rattle.fcg_analysis.specs.Laws.{IsAcyclic, chain_above, hands_on, overrides_shortly, overrides_by_cases}
+use Rattle.fcg_analysis.specs.Selection.{between, same_package, overrides_directly, is_candidate, overrides_over, can_override}
+use Rattle.fcg_analysis.specs.Laws.Statements.{IsAcyclic, chain_above, hands_on, overrides_shortly, overrides_by_cases}
 use Rattle.fcg_analysis.proofs.ChainLaws.{chain_goes_on, chain_rest}
 use Rattle.fcg_analysis.proofs.General.Members.{Contains-from_IsIn, IsIn, IsIn-from_Contains, and_first, and_second, any_in, before_less, in_any, in_append, split}
 use Rattle.fcg_analysis.proofs.WinnerLaws.{is_type_back}
@@ -63,15 +63,15 @@ node_owner types b h = member_owner types (b.owner, b.method) (node_member 0 (me
 
 -- ---- what may override
 
-record May (c a : Node) : Type 0 where
+record Candidate (c a : Node) : Type 0 where
   over : is_instance c.method ≡ true
   under : is_instance a.method ≡ true
   name : a.method.name ≡ c.method.name
   desc : a.method.desc ≡ c.method.desc
   open' : not (is_private c.method) ≡ true
 
-may : (c a : Node) → may_override c a ≡ true → May c a
-may c a h =
+candidate : (c a : Node) → is_candidate c a ≡ true → Candidate c a
+candidate c a h =
     let p = and_first (is_instance c.method && is_instance a.method && has_signature (signature_of a.method) c.method) (not (is_private c.method)) h in
     let q = and_first (is_instance c.method && is_instance a.method) (has_signature (signature_of a.method) c.method) p in
     let s = and_second (is_instance c.method && is_instance a.method) (has_signature (signature_of a.method) c.method) p in
@@ -83,8 +83,8 @@ may c a h =
       open' = and_second (is_instance c.method && is_instance a.method && has_signature (signature_of a.method) c.method) (not (is_private c.method)) h;
     }
 
-may_back : (c a : Node) → May c a → may_override c a ≡ true
-may_back c a m =
+candidate_back : (c a : Node) → Candidate c a → is_candidate c a ≡ true
+candidate_back c a m =
     and_from (is_instance c.method && is_instance a.method && has_signature (signature_of a.method) c.method) (not (is_private c.method))
     (and_from (is_instance c.method && is_instance a.method) (has_signature (signature_of a.method) c.method)
     (and_from (is_instance c.method) (is_instance a.method) m.over m.under)
@@ -93,15 +93,15 @@ may_back c a m =
     m.open'
 
 -- of two that may override one, the first may override the second
-may_beside : (c b a : Node) → may_override c a ≡ true → may_override b a ≡ true → may_override c b ≡ true
-may_beside c b a h k =
-    let m = may c a h in let n = may b a k in
-    may_back c b (record { over = m.over; under = n.over; name = sym n.name ∙ m.name; desc = sym n.desc ∙ m.desc; open' = m.open' })
+candidates_beside : (c b a : Node) → is_candidate c a ≡ true → is_candidate b a ≡ true → is_candidate c b ≡ true
+candidates_beside c b a h k =
+    let m = candidate c a h in let n = candidate b a k in
+    candidate_back c b (record { over = m.over; under = n.over; name = sym n.name ∙ m.name; desc = sym n.desc ∙ m.desc; open' = m.open' })
 
-may_joined : (c b a : Node) → may_override c b ≡ true → may_override b a ≡ true → may_override c a ≡ true
-may_joined c b a h k =
-    let m = may c b h in let n = may b a k in
-    may_back c a (record { over = m.over; under = n.under; name = n.name ∙ m.name; desc = n.desc ∙ m.desc; open' = m.open' })
+candidates_joined : (c b a : Node) → is_candidate c b ≡ true → is_candidate b a ≡ true → is_candidate c a ≡ true
+candidates_joined c b a h k =
+    let m = candidate c b h in let n = candidate b a k in
+    candidate_back c a (record { over = m.over; under = n.under; name = n.name ∙ m.name; desc = n.desc ∙ m.desc; open' = m.open' })
 
 packages_joined : (c b a : Node) → same_package c b ≡ true → same_package b a ≡ true → same_package c a ≡ true
 packages_joined c b a h k =
@@ -115,27 +115,27 @@ record HandsOn (types : List Placed) (c a : Node) : Type 0 where
   place : IsIn between_at (between types c.owner a.owner)
   known : IsIn node (nodes types)
   owner : is_type between_at node.owner ≡ true
-  over : may_override c node ≡ true
-  under : may_override node a ≡ true
+  over : is_candidate c node ≡ true
+  under : is_candidate node a ≡ true
   strong : (is_public node.method || is_protected node.method) ≡ true
   package' : same_package node a ≡ true
 
 handed : (types : List Placed) (c a : Node) → list_any (hands_on types c a) (between types c.owner a.owner) ≡ true → HandsOn types c a
 handed types c a h =
     let t = in_any (hands_on types c a) (between types c.owner a.owner) h in
-    let b = in_any (λ b. is_type t.0 b.owner && (may_override c b && (may_override b a && ((is_public b.method || is_protected b.method) && same_package b a)))) (nodes types) t.2 in
+    let b = in_any (λ b. is_type t.0 b.owner && (is_candidate c b && (is_candidate b a && ((is_public b.method || is_protected b.method) && same_package b a)))) (nodes types) t.2 in
     let n = b.0 in
-    let p = and_second (is_type t.0 n.owner) (may_override c n && (may_override n a && ((is_public n.method || is_protected n.method) && same_package n a))) b.2 in
-    let q = and_second (may_override c n) (may_override n a && ((is_public n.method || is_protected n.method) && same_package n a)) p in
-    let r = and_second (may_override n a) ((is_public n.method || is_protected n.method) && same_package n a) q in
+    let p = and_second (is_type t.0 n.owner) (is_candidate c n && (is_candidate n a && ((is_public n.method || is_protected n.method) && same_package n a))) b.2 in
+    let q = and_second (is_candidate c n) (is_candidate n a && ((is_public n.method || is_protected n.method) && same_package n a)) p in
+    let r = and_second (is_candidate n a) ((is_public n.method || is_protected n.method) && same_package n a) q in
     record {
       between_at = t.0;
       node = n;
       place = t.1;
       known = b.1;
-      owner = and_first (is_type t.0 n.owner) (may_override c n && (may_override n a && ((is_public n.method || is_protected n.method) && same_package n a))) b.2;
-      over = and_first (may_override c n) (may_override n a && ((is_public n.method || is_protected n.method) && same_package n a)) p;
-      under = and_first (may_override n a) ((is_public n.method || is_protected n.method) && same_package n a) q;
+      owner = and_first (is_type t.0 n.owner) (is_candidate c n && (is_candidate n a && ((is_public n.method || is_protected n.method) && same_package n a))) b.2;
+      over = and_first (is_candidate c n) (is_candidate n a && ((is_public n.method || is_protected n.method) && same_package n a)) p;
+      under = and_first (is_candidate n a) ((is_public n.method || is_protected n.method) && same_package n a) q;
       strong = and_first (is_public n.method || is_protected n.method) (same_package n a) r;
       package' = and_second (is_public n.method || is_protected n.method) (same_package n a) r;
     }
@@ -143,18 +143,18 @@ handed types c a h =
 hand : (types : List Placed) (c a : Node) → HandsOn types c a → list_any (hands_on types c a) (between types c.owner a.owner) ≡ true
 hand types c a h =
     any_in (hands_on types c a) (between types c.owner a.owner) h.between_at h.place
-    (any_in (λ b. is_type h.between_at b.owner && (may_override c b && (may_override b a && ((is_public b.method || is_protected b.method) && same_package b a)))) (nodes types) h.node h.known
+    (any_in (λ b. is_type h.between_at b.owner && (is_candidate c b && (is_candidate b a && ((is_public b.method || is_protected b.method) && same_package b a)))) (nodes types) h.node h.known
     (and_from (is_type h.between_at h.node.owner) _ h.owner
-    (and_from (may_override c h.node) _ h.over
-    (and_from (may_override h.node a) _ h.under
+    (and_from (is_candidate c h.node) _ h.over
+    (and_from (is_candidate h.node a) _ h.under
     (and_from (is_public h.node.method || is_protected h.node.method) _ h.strong h.package')))))
 
-shortly_itself : (types : List Placed) (c a : Node) → may_override c a ≡ true → overrides_itself c a ≡ true → overrides_shortly types c a ≡ true
-shortly_itself types c a m i = and_from (may_override c a) _ m (or_left (overrides_itself c a) _ i)
+shortly_directly : (types : List Placed) (c a : Node) → is_candidate c a ≡ true → overrides_directly c a ≡ true → overrides_shortly types c a ≡ true
+shortly_directly types c a m i = and_from (is_candidate c a) _ m (or_left (overrides_directly c a) _ i)
 
-shortly_handed : (types : List Placed) (c a : Node) → may_override c a ≡ true → is_package_private a.method ≡ true → HandsOn types c a → overrides_shortly types c a ≡ true
+shortly_handed : (types : List Placed) (c a : Node) → is_candidate c a ≡ true → is_package_private a.method ≡ true → HandsOn types c a → overrides_shortly types c a ≡ true
 shortly_handed types c a m p h =
-    and_from (may_override c a) _ m (or_right (overrides_itself c a) _ (and_from (is_package_private a.method) _ p (hand types c a h)))
+    and_from (is_candidate c a) _ m (or_right (overrides_directly c a) _ (and_from (is_package_private a.method) _ p (hand types c a h)))
 
 -- ---- the four cases give no more
 
@@ -192,7 +192,7 @@ module _ (types : List Placed) (acyclic : IsAcyclic types) (distinct : IsDistinc
       let rest : drop 1 (chain types b) ≡ s.rest = ap (λ v. drop 1 (chain types v)) (sym same) ∙ ap (drop 1) r.0 in
       to_between c a u t h (s.within u (subst (λ zs. IsIn u (before (is_type a) zs)) rest (in_between b a u k)))
 
-  private_package : (b a : Node) → overrides_itself b a ≡ true → (is_public a.method || is_protected a.method) ≡ true ⊎ (same_package b a ≡ true)
+  private_package : (b a : Node) → overrides_directly b a ≡ true → (is_public a.method || is_protected a.method) ≡ true ⊎ (same_package b a ≡ true)
   private_package b a h =
       elim (or_cases (is_public a.method || is_protected a.method) (is_package_private a.method && same_package b a) h) [
         | inl k ↦ inl k
@@ -200,21 +200,21 @@ module _ (types : List Placed) (acyclic : IsAcyclic types) (distinct : IsDistinc
       ]
 
   -- b stands between: each of the two halves is by itself or handed on
-  joined : (c a : Node) → IsIn c.owner types → may_override c a ≡ true → (t : Placed) (b : Node) → is_package_private a.method ≡ true → IsIn t (between types c.owner a.owner) → IsIn b (nodes types) → is_type t b.owner ≡ true
+  joined : (c a : Node) → IsIn c.owner types → is_candidate c a ≡ true → (t : Placed) (b : Node) → is_package_private a.method ≡ true → IsIn t (between types c.owner a.owner) → IsIn b (nodes types) → is_type t b.owner ≡ true
       → overrides_shortly types c b ≡ true → overrides_shortly types b a ≡ true → overrides_shortly types c a ≡ true
-  joined c a known m t b p place node owner s r = lower (or_cases (overrides_itself b a) (is_package_private a.method && list_any (hands_on types b a) (between types b.owner a.owner)) (and_second (may_override b a) (overrides_itself b a || is_package_private a.method && list_any (hands_on types b a) (between types b.owner a.owner)) r))
+  joined c a known m t b p place node owner s r = lower (or_cases (overrides_directly b a) (is_package_private a.method && list_any (hands_on types b a) (between types b.owner a.owner)) (and_second (is_candidate b a) (overrides_directly b a || is_package_private a.method && list_any (hands_on types b a) (between types b.owner a.owner)) r))
     where
-      over' : may_override c b ≡ true
-      over' = and_first (may_override c b) (overrides_itself c b || is_package_private b.method && list_any (hands_on types c b) (between types c.owner b.owner)) s
+      over' : is_candidate c b ≡ true
+      over' = and_first (is_candidate c b) (overrides_directly c b || is_package_private b.method && list_any (hands_on types c b) (between types c.owner b.owner)) s
 
-      under' : may_override b a ≡ true
-      under' = and_first (may_override b a) (overrides_itself b a || is_package_private a.method && list_any (hands_on types b a) (between types b.owner a.owner)) r
+      under' : is_candidate b a ≡ true
+      under' = and_first (is_candidate b a) (overrides_directly b a || is_package_private a.method && list_any (hands_on types b a) (between types b.owner a.owner)) r
 
-      upper : same_package b a ≡ true → (overrides_itself c b ≡ true) ⊎ ((is_package_private b.method && list_any (hands_on types c b) (between types c.owner b.owner)) ≡ true) → overrides_shortly types c a ≡ true
+      upper : same_package b a ≡ true → (overrides_directly c b ≡ true) ⊎ ((is_package_private b.method && list_any (hands_on types c b) (between types c.owner b.owner)) ≡ true) → overrides_shortly types c a ≡ true
       upper q (inl i) =
           elim (private_package c b i) [
             | inl k ↦ shortly_handed types c a m p (record { between_at = t; node = b; place = place; known = node; owner = owner; over = over'; under = under'; strong = k; package' = q })
-            | inr k ↦ shortly_itself types c a m (or_right (is_public a.method || is_protected a.method) _ (and_from (is_package_private a.method) (same_package c a) p (packages_joined c b a k q)))
+            | inr k ↦ shortly_directly types c a m (or_right (is_public a.method || is_protected a.method) _ (and_from (is_package_private a.method) (same_package c a) p (packages_joined c b a k q)))
           ]
       upper q (inr i) =
           let d = handed types c b (and_second (is_package_private b.method) _ i) in
@@ -225,16 +225,16 @@ module _ (types : List Placed) (acyclic : IsAcyclic types) (distinct : IsDistinc
             known = d.known;
             owner = d.owner;
             over = d.over;
-            under = may_joined d.node b a d.under under';
+            under = candidates_joined d.node b a d.under under';
             strong = d.strong;
             package' = packages_joined d.node b a d.package' q;
           })
 
-      lower : (overrides_itself b a ≡ true) ⊎ ((is_package_private a.method && list_any (hands_on types b a) (between types b.owner a.owner)) ≡ true) → overrides_shortly types c a ≡ true
+      lower : (overrides_directly b a ≡ true) ⊎ ((is_package_private a.method && list_any (hands_on types b a) (between types b.owner a.owner)) ≡ true) → overrides_shortly types c a ≡ true
       lower (inl i) =
           elim (private_package b a i) [
-            | inl k ↦ shortly_itself types c a m (or_left (is_public a.method || is_protected a.method) _ k)
-            | inr q ↦ upper q (or_cases (overrides_itself c b) (is_package_private b.method && list_any (hands_on types c b) (between types c.owner b.owner)) (and_second (may_override c b) (overrides_itself c b || is_package_private b.method && list_any (hands_on types c b) (between types c.owner b.owner)) s))
+            | inl k ↦ shortly_directly types c a m (or_left (is_public a.method || is_protected a.method) _ k)
+            | inr q ↦ upper q (or_cases (overrides_directly c b) (is_package_private b.method && list_any (hands_on types c b) (between types c.owner b.owner)) (and_second (is_candidate c b) (overrides_directly c b || is_package_private b.method && list_any (hands_on types c b) (between types c.owner b.owner)) s))
           ]
       lower (inr i) =
           let d = handed types b a (and_second (is_package_private a.method) _ i) in
@@ -244,25 +244,25 @@ module _ (types : List Placed) (acyclic : IsAcyclic types) (distinct : IsDistinc
             place = farther c.owner a.owner b.owner t d.between_at (Contains-from_IsIn types c.owner known) (node_owner types b node) place owner d.place;
             known = d.known;
             owner = d.owner;
-            over = may_beside c d.node a m d.under;
+            over = candidates_beside c d.node a m d.under;
             under = d.under;
             strong = d.strong;
             package' = d.package';
           })
 
   to_shortly : (n : ℕ) (c a : Node) → IsIn c.owner types → overrides_over n types c a ≡ true → overrides_shortly types c a ≡ true
-  to_shortly zero c a known h = shortly_itself types c a (and_first (may_override c a) (overrides_itself c a) h) (and_second (may_override c a) (overrides_itself c a) h)
-  to_shortly (suc n) c a known h = cases (or_cases (overrides_itself c a) (is_package_private a.method && list_any over (between types c.owner a.owner)) (and_second (may_override c a) (overrides_itself c a || is_package_private a.method && list_any over (between types c.owner a.owner)) h)) (to_shortly n)
+  to_shortly zero c a known h = shortly_directly types c a (and_first (is_candidate c a) (overrides_directly c a) h) (and_second (is_candidate c a) (overrides_directly c a) h)
+  to_shortly (suc n) c a known h = cases (or_cases (overrides_directly c a) (is_package_private a.method && list_any over (between types c.owner a.owner)) (and_second (is_candidate c a) (overrides_directly c a || is_package_private a.method && list_any over (between types c.owner a.owner)) h)) (to_shortly n)
     where
       over : Placed → Bool
       over t = list_any (λ b. is_type t b.owner && (overrides_over n types c b && overrides_over n types b a)) (nodes types)
 
-      m : may_override c a ≡ true
-      m = and_first (may_override c a) (overrides_itself c a || is_package_private a.method && list_any over (between types c.owner a.owner)) h
+      m : is_candidate c a ≡ true
+      m = and_first (is_candidate c a) (overrides_directly c a || is_package_private a.method && list_any over (between types c.owner a.owner)) h
 
-      cases : (overrides_itself c a ≡ true) ⊎ ((is_package_private a.method && list_any over (between types c.owner a.owner)) ≡ true)
+      cases : (overrides_directly c a ≡ true) ⊎ ((is_package_private a.method && list_any over (between types c.owner a.owner)) ≡ true)
           → ((c a : Node) → IsIn c.owner types → overrides_over n types c a ≡ true → overrides_shortly types c a ≡ true) → overrides_shortly types c a ≡ true
-      cases (inl i) r = shortly_itself types c a m i
+      cases (inl i) r = shortly_directly types c a m i
       cases (inr i) r =
           let p = and_first (is_package_private a.method) _ i in
           let t = in_any over (between types c.owner a.owner) (and_second (is_package_private a.method) _ i) in
@@ -274,15 +274,15 @@ module _ (types : List Placed) (acyclic : IsAcyclic types) (distinct : IsDistinc
 
 -- ---- and no less
 
-over_itself : (n : ℕ) (types : List Placed) (c a : Node) → may_override c a ≡ true → overrides_itself c a ≡ true → overrides_over n types c a ≡ true
-over_itself zero types c a m i = and_from (may_override c a) (overrides_itself c a) m i
-over_itself (suc n) types c a m i = and_from (may_override c a) _ m (or_left (overrides_itself c a) _ i)
+over_directly : (n : ℕ) (types : List Placed) (c a : Node) → is_candidate c a ≡ true → overrides_directly c a ≡ true → overrides_over n types c a ≡ true
+over_directly zero types c a m i = and_from (is_candidate c a) (overrides_directly c a) m i
+over_directly (suc n) types c a m i = and_from (is_candidate c a) _ m (or_left (overrides_directly c a) _ i)
 
 from_shortly : (n : ℕ) (types : List Placed) (c a : Node) → length (between types c.owner a.owner) ≤ n → overrides_shortly types c a ≡ true → overrides_over n types c a ≡ true
 from_shortly n types c a l h =
-    let m = and_first (may_override c a) (overrides_itself c a || is_package_private a.method && list_any (hands_on types c a) (between types c.owner a.owner)) h in
-    elim (or_cases (overrides_itself c a) (is_package_private a.method && list_any (hands_on types c a) (between types c.owner a.owner)) (and_second (may_override c a) _ h)) [
-      | inl i ↦ over_itself n types c a m i
+    let m = and_first (is_candidate c a) (overrides_directly c a || is_package_private a.method && list_any (hands_on types c a) (between types c.owner a.owner)) h in
+    elim (or_cases (overrides_directly c a) (is_package_private a.method && list_any (hands_on types c a) (between types c.owner a.owner)) (and_second (is_candidate c a) _ h)) [
+      | inl i ↦ over_directly n types c a m i
       | inr i ↦ by_hand n l m (and_first (is_package_private a.method) _ i) (handed types c a (and_second (is_package_private a.method) _ i))
     ]
   where
@@ -290,16 +290,16 @@ from_shortly n types c a l h =
     some_in [] x h = absurd h
     some_in (y ∷ ys) x h = omega arith
 
-    by_hand : (n : ℕ) → length (between types c.owner a.owner) ≤ n → may_override c a ≡ true → is_package_private a.method ≡ true → HandsOn types c a → overrides_over n types c a ≡ true
+    by_hand : (n : ℕ) → length (between types c.owner a.owner) ≤ n → is_candidate c a ≡ true → is_package_private a.method ≡ true → HandsOn types c a → overrides_over n types c a ≡ true
     by_hand zero l m p d = absurd (let k = some_in (between types c.owner a.owner) d.between_at d.place in omega arith)
     by_hand (suc n) l m p d =
-        and_from (may_override c a) _ m (or_right (overrides_itself c a) _ (and_from (is_package_private a.method) _ p
+        and_from (is_candidate c a) _ m (or_right (overrides_directly c a) _ (and_from (is_package_private a.method) _ p
         (any_in (λ t. list_any (λ b. is_type t b.owner && (overrides_over n types c b && overrides_over n types b a)) (nodes types)) (between types c.owner a.owner) d.between_at d.place
         (any_in (λ b. is_type d.between_at b.owner && (overrides_over n types c b && overrides_over n types b a)) (nodes types) d.node d.known
         (and_from (is_type d.between_at d.node.owner) _ d.owner
         (and_from (overrides_over n types c d.node) _
-        (over_itself n types c d.node d.over (or_left (is_public d.node.method || is_protected d.node.method) _ d.strong))
-        (over_itself n types d.node a d.under (or_right (is_public a.method || is_protected a.method) _ (and_from (is_package_private a.method) _ p d.package')))))))))
+        (over_directly n types c d.node d.over (or_left (is_public d.node.method || is_protected d.node.method) _ d.strong))
+        (over_directly n types d.node a d.under (or_right (is_public a.method || is_protected a.method) _ (and_from (is_package_private a.method) _ p d.package')))))))))
 
 pub override_shortly : (types : List Placed) → IsAcyclic types → IsDistinct is_type types → (c a : Node) → Contains types c.owner → can_override types c a ≡ overrides_shortly types c a
 unfolding can_override
@@ -317,16 +317,16 @@ override_by_cases types acyclic distinct c a known = short c a known ∙ both_wa
 
     forth : overrides_shortly types c a ≡ true → overrides_by_cases types c a ≡ true
     forth h =
-        let m = and_first (may_override c a) (overrides_itself c a || is_package_private a.method && list_any (hands_on types c a) (between types c.owner a.owner)) h in
-        and_from (may_override c a) _ m (elim (or_cases (overrides_itself c a) (is_package_private a.method && list_any (hands_on types c a) (between types c.owner a.owner)) (and_second (may_override c a) _ h)) [
-          | inl i ↦ or_left (overrides_itself c a) _ i
+        let m = and_first (is_candidate c a) (overrides_directly c a || is_package_private a.method && list_any (hands_on types c a) (between types c.owner a.owner)) h in
+        and_from (is_candidate c a) _ m (elim (or_cases (overrides_directly c a) (is_package_private a.method && list_any (hands_on types c a) (between types c.owner a.owner)) (and_second (is_candidate c a) _ h)) [
+          | inl i ↦ or_left (overrides_directly c a) _ i
           | inr i ↦ (
               let p = and_first (is_package_private a.method) _ i in
               let d = handed types c a (and_second (is_package_private a.method) _ i) in
-              let u : can_override types c d.node ≡ true = short c d.node known ∙ shortly_itself types c d.node d.over (or_left (is_public d.node.method || is_protected d.node.method) _ d.strong) in
+              let u : can_override types c d.node ≡ true = short c d.node known ∙ shortly_directly types c d.node d.over (or_left (is_public d.node.method || is_protected d.node.method) _ d.strong) in
               let v : can_override types d.node a ≡ true = short d.node a (Contains-from_IsIn types d.node.owner (node_owner types d.node d.known))
-              ∙ shortly_itself types d.node a d.under (or_right (is_public a.method || is_protected a.method) _ (and_from (is_package_private a.method) _ p d.package')) in
-              or_right (overrides_itself c a) _ (and_from (is_package_private a.method) _ p
+              ∙ shortly_directly types d.node a d.under (or_right (is_public a.method || is_protected a.method) _ (and_from (is_package_private a.method) _ p d.package')) in
+              or_right (overrides_directly c a) _ (and_from (is_package_private a.method) _ p
               (any_in (λ t. list_any (λ b. is_type t b.owner && (can_override types c b && can_override types b a)) (nodes types)) (between types c.owner a.owner) d.between_at d.place
               (any_in (λ b. is_type d.between_at b.owner && (can_override types c b && can_override types b a)) (nodes types) d.node d.known
               (and_from (is_type d.between_at d.node.owner) _ d.owner (and_from (can_override types c d.node) _ u v))))))
@@ -334,9 +334,9 @@ override_by_cases types acyclic distinct c a known = short c a known ∙ both_wa
 
     back : overrides_by_cases types c a ≡ true → overrides_shortly types c a ≡ true
     back h =
-        let m = and_first (may_override c a) (overrides_itself c a || is_package_private a.method && list_any (λ t. list_any (λ b. is_type t b.owner && (can_override types c b && can_override types b a)) (nodes types)) (between types c.owner a.owner)) h in
-        elim (or_cases (overrides_itself c a) (is_package_private a.method && list_any (λ t. list_any (λ b. is_type t b.owner && (can_override types c b && can_override types b a)) (nodes types)) (between types c.owner a.owner)) (and_second (may_override c a) _ h)) [
-          | inl i ↦ shortly_itself types c a m i
+        let m = and_first (is_candidate c a) (overrides_directly c a || is_package_private a.method && list_any (λ t. list_any (λ b. is_type t b.owner && (can_override types c b && can_override types b a)) (nodes types)) (between types c.owner a.owner)) h in
+        elim (or_cases (overrides_directly c a) (is_package_private a.method && list_any (λ t. list_any (λ b. is_type t b.owner && (can_override types c b && can_override types b a)) (nodes types)) (between types c.owner a.owner)) (and_second (is_candidate c a) _ h)) [
+          | inl i ↦ shortly_directly types c a m i
           | inr i ↦ (
               let p = and_first (is_package_private a.method) _ i in
               let t = in_any (λ t. list_any (λ b. is_type t b.owner && (can_override types c b && can_override types b a)) (nodes types)) (between types c.owner a.owner) (and_second (is_package_private a.method) _ i) in

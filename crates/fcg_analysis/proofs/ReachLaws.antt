@@ -5,8 +5,8 @@ use Rattle.std.specs.List.{list_any, range_with_len}
 use Rattle.std.proofs.lemmas.Bool.{or_cases}
 use Rattle.std.proofs.lemmas.Bool.Decides.{Decides-eqb}
 use Rattle.fcg_analysis.specs.Walks.{Walk, step, onward as more, led_within}
-use Rattle.fcg_analysis.specs.Reach.{Edges, leads, starts, dist, has_walk, WalkOf, here, onward}
-use Rattle.fcg_analysis.specs.Laws.{DistIsLeast}
+use Rattle.fcg_analysis.specs.Reach.{Edges, leads, from_which, dist, has_walk, WalkOf, here, onward}
+use Rattle.fcg_analysis.specs.Laws.Statements.{DistIsLeast}
 use Rattle.fcg_analysis.proofs.General.Members.{Contains-from_IsIn, IsIn, IsIn-from_Contains, any_in, filter_in, find_none, in_any, in_filter}
 use Rattle.fcg_analysis.proofs.General.Ranges.{find_least, in_range, length-range, range_in}
 use Rattle.fcg_analysis.proofs.General.Walking.{led_from_walk}
@@ -14,28 +14,28 @@ use Rattle.fcg_analysis.proofs.General.Walking.{led_from_walk}
 -- ---- walks of so many edges
 
 module _ (es : Edges) (count target : ℕ) where
-  pub starts_in : (k m : ℕ) → WalkOf es count target m k → IsIn m (starts k es count target)
-  starts_in k target here = inl refl
-  starts_in (suc k) m (onward {u = u} l t w) =
-      filter_in (λ m. list_any (leads es m) (starts k es count target)) (range_with_len 0 count) m (range_in 0 count m (omega arith) (omega arith))
-      (any_in (leads es m) (starts k es count target) u (starts_in k u w) t)
+  pub from_which_in : (k m : ℕ) → WalkOf es count target m k → IsIn m (from_which k es count target)
+  from_which_in k target here = inl refl
+  from_which_in (suc k) m (onward {u = u} l t w) =
+      filter_in (λ m. list_any (leads es m) (from_which k es count target)) (range_with_len 0 count) m (range_in 0 count m (omega arith) (omega arith))
+      (any_in (leads es m) (from_which k es count target) u (from_which_in k u w) t)
 
-  pub in_starts : (k m : ℕ) → IsIn m (starts k es count target) → WalkOf es count target m k
-  in_starts zero m (inl e) = subst (λ m. WalkOf es count target m 0) e here
-  in_starts zero m (inr h) = absurd h
-  in_starts (suc k) m h =
-      let r = in_filter (λ m. list_any (leads es m) (starts k es count target)) (range_with_len 0 count) m h in
+  pub in_from_which : (k m : ℕ) → IsIn m (from_which k es count target) → WalkOf es count target m k
+  in_from_which zero m (inl e) = subst (λ m. WalkOf es count target m 0) e here
+  in_from_which zero m (inr h) = absurd h
+  in_from_which (suc k) m h =
+      let r = in_filter (λ m. list_any (leads es m) (from_which k es count target)) (range_with_len 0 count) m h in
       let s : (0 ≤ m) × (m < 0 + count) = in_range 0 count m r.0 in
-      let u = in_any (leads es m) (starts k es count target) r.1 in
-      onward (omega arith) u.2 (in_starts k u.0 u.1)
+      let u = in_any (leads es m) (from_which k es count target) r.1 in
+      onward (omega arith) u.2 (in_from_which k u.0 u.1)
 
   pub has_walk_true : (m k : ℕ) → WalkOf es count target m k → has_walk es count target m k ≡ true
-  has_walk_true m k w = any_in (λ n. n == m) (starts k es count target) m (starts_in k m w) ((Decides-eqb m m).1 refl)
+  has_walk_true m k w = any_in (λ n. n == m) (from_which k es count target) m (from_which_in k m w) ((Decides-eqb m m).1 refl)
 
   pub true_has_walk : (m k : ℕ) → has_walk es count target m k ≡ true → WalkOf es count target m k
   true_has_walk m k h =
-      let r = in_any (λ n. n == m) (starts k es count target) h in
-      subst (λ m. WalkOf es count target m k) ((Decides-eqb r.0 m).0 r.2) (in_starts k r.0 r.1)
+      let r = in_any (λ n. n == m) (from_which k es count target) h in
+      subst (λ m. WalkOf es count target m k) ((Decides-eqb r.0 m).0 r.2) (in_from_which k r.0 r.1)
 
   -- backward over the nodes
   back : ℕ → ℕ → Bool

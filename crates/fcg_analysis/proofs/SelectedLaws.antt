@@ -7,7 +7,7 @@ use Rattle.fcg_analysis.specs.Types.{chain}
 use Rattle.fcg_analysis.specs.Nodes.{Node, nodes, one_default}
 use Rattle.fcg_analysis.specs.Resolution.{Found, Phantom}
 use Rattle.fcg_analysis.specs.Selection.{can_override, can_override_phantom, searched, selected}
-use Rattle.fcg_analysis.specs.Laws.{IsInChain, IsSelected, IsItself, IsOverriding, IsDefault, IsSelectedForPhantom, IsOverridingPhantom, IsDefaultForPhantom}
+use Rattle.fcg_analysis.specs.Laws.Statements.{IsInChain, IsSelected, IsItself, IsOverriding, IsDefault, IsSelectedForPhantom, IsOverridingPhantom, IsDefaultForPhantom}
 use Rattle.fcg_analysis.proofs.General.Members.{found_first, in_middle, IsIn, Contains-from_IsIn, find_in, and_first, and_second}
 
 -- the node is of a type of the line, and passes

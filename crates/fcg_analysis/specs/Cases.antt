@@ -3,3 +3,4 @@ pub mod Computed
 pub mod ShortForm
 pub mod Sets
 pub mod Choices
+pub mod Conditions

@@ -1,4 +1,4 @@
--- What views, methods and references say of themselves (JVMS 4.1, 4.4.2 and 4.6).
+-- What views, methods and references say of themselves (JVMS 4.1, 4.4.2 and 4.6; docs/analysis.md, Words and Types).
 use Rattle.std.specs.Prelude.{ℕ, List, [], ◌∷◌, ◌++◌, Bool, false, not, ◌&&◌, ◌||◌, ◌==◌, codes, if◌then◌else◌, option_to_list}
 use Rattle.fcg_views.specs.declared.view.View.{View}
 use Rattle.fcg_views.specs.declared.view.Method.{Method}

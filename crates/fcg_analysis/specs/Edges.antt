@@ -1,4 +1,5 @@
--- The edges of class hierarchy analysis (Dean, Grove and Chambers, ECOOP 1995), and what becomes of each site.
+-- The edges of class hierarchy analysis (Dean, Grove and Chambers, ECOOP 1995), and what becomes of each site
+-- (docs/analysis.md, Edges).
 use Rattle.std.specs.Prelude.{ℕ, List, Bool, true, false, not, ◌&&◌, Option, Some, None, filter, map, flat_map, count_by, if◌then◌else◌}
 use Rattle.std.specs.List.{list_any}
 use Rattle.fcg_views.specs.declared.view.SiteKind.{SiteKind}
@@ -70,7 +71,7 @@ meets_dispatch types site b =
     is_dispatched outcome && not (is_abstract b.method)
     && list_any (λ d. is_receiver types site.target.owner d && is_found b (selected types d outcome (signature_in site.target))) types
 
--- the table, by how the site calls
+-- the table, by how the site calls; only a special call looks at the caller, for its class
 abbrev pub meets_row : List Placed → Node → Site → Node → Call → Bool
 meets_row types a site b VirtualCall = meets_dispatch types site b
 meets_row types a site b InterfaceCall = meets_dispatch types site b
@@ -78,7 +79,7 @@ meets_row types a site b SpecialCall = meets_special types a.owner site b
 meets_row types a site b StaticCall = meets_static types site b
 meets_row types a site b NoCall = false
 
--- a site with an array owner leads to Object's method alone
+-- a site with an array owner: its outcome is Object's method or none, and no receiver is asked for, and no special search
 abbrev pub meets_array : List Placed → Site → Node → Call → Bool
 meets_array types site b StaticCall = is_outcome b (resolved types site.target) && not (is_abstract b.method) && is_static b.method
 meets_array types site b NoCall = false

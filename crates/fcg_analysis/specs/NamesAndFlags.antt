@@ -1,4 +1,4 @@
--- Words on lists, names and flags.
+-- Words on lists, names and flags (docs/analysis.md, Words).
 --     same m n             two names have the same bytes
 --     contains n ns        a name is one of the names
 --     has bit flags        a flag is set

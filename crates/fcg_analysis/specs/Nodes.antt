@@ -1,4 +1,4 @@
--- The methods of the known types, and those that a type has from the interfaces above it.
+-- The methods of the known types, and those that a type has from the interfaces above it (docs/analysis.md, Methods).
 use Rattle.std.specs.Prelude.{ℕ, ◌+◌, List, [], ◌∷◌, Bool, not, ◌&&◌, ◌||◌, ◌==◌, Option, filter, map, find, flat_map}
 use Rattle.std.specs.List.{list_any}
 use Rattle.fcg_views.specs.declared.view.Method.{Method}
@@ -28,7 +28,7 @@ nodes_from n (m ∷ ms) = record { number = n; owner = m.0; method = m.1 } ∷ n
 unfoldable pub nodes : List Placed → List Node
 nodes types = nodes_from 0 (flat_map (λ t. map (λ m. (t, m)) t.view.methods) types)
 
--- the node of this signature that t declares
+-- the node of this signature that t declares; of two, which no class file has, the first
 abbrev pub declared : List Placed → Signature → Placed → Option Node
 declared types s t = find (λ m. is_type t m.owner && has_signature s m.method) (nodes types)
 
@@ -50,5 +50,6 @@ specific types t s =
 unfoldable pub one_default : List Placed → Placed → Signature → Option Node
 one_default types t s = one (filter (λ m. not (is_abstract m.method)) (specific types t s))
 
-unfoldable pub first : List Placed → Placed → Signature → Option Node
-first types t s = first_of_list (super_methods types t s)
+-- the first of all of them, maximally-specific or not
+unfoldable pub first_super_method : List Placed → Placed → Signature → Option Node
+first_super_method types t s = first_of_list (super_methods types t s)

@@ -1,4 +1,4 @@
--- The methods that reach a target, over any list of edges between the nodes below a count.
+-- The methods that reach a target, over any list of edges between the nodes below a count (docs/analysis.md, Reach).
 use Rattle.std.specs.Prelude.{◌≡◌, ◌<◌, ℕ, zero, suc, ◌+◌, List, [], ◌∷◌, Bool, true, false, ◌&&◌, ◌==◌, Option, Some, filter, find, filter_map, option_map}
 use Rattle.std.specs.List.{list_any, range_with_len}
 
@@ -9,13 +9,13 @@ abbrev pub leads : Edges → ℕ → ℕ → Bool
 leads es m u = list_any (λ e. e.0 == m && e.1 == u) es
 
 -- the nodes from which a walk of k edges leads to the target
-abbrev pub starts : ℕ → Edges → ℕ → ℕ → List ℕ
-starts zero es count target = target ∷ []
-starts (suc k) es count target =
-    let nearer = starts k es count target in filter (λ m. list_any (leads es m) nearer) (range_with_len 0 count)
+abbrev pub from_which : ℕ → Edges → ℕ → ℕ → List ℕ
+from_which zero es count target = target ∷ []
+from_which (suc k) es count target =
+    let nearer = from_which k es count target in filter (λ m. list_any (leads es m) nearer) (range_with_len 0 count)
 
 abbrev pub has_walk : Edges → ℕ → ℕ → ℕ → ℕ → Bool
-has_walk es count target m k = list_any (λ n. n == m) (starts k es count target)
+has_walk es count target m k = list_any (λ n. n == m) (from_which k es count target)
 
 -- a walk of k edges between nodes below the count
 pub data WalkOf (es : Edges) (count target : ℕ) : ℕ → ℕ → Type 0 where

@@ -1,15 +1,17 @@
--- Method resolution (JVMS 5.4.3.3 and 5.4.3.4).
+-- Method resolution (JVMS 5.4.3.3 and 5.4.3.4; docs/analysis.md, Resolution).
 use Rattle.std.specs.Prelude.{List, ◌&&◌, Option, Some, None, option_and_then, if◌then◌else◌}
 use Rattle.fcg_views.specs.declared.view.Ref.{Ref}
 use Rattle.fcg_analysis.specs.NamesAndFlags.{or_else, found_in}
 use Rattle.fcg_analysis.specs.Declarations.{Placed, Signature, signature_in, is_class, is_interface, is_public, is_instance, has_array_owner}
-use Rattle.fcg_analysis.specs.Types.{named, object, has_gap, chain}
-use Rattle.fcg_analysis.specs.Nodes.{Node, declared, one_default, first}
+use Rattle.fcg_analysis.specs.Types.{type_named, object, has_gap, chain}
+use Rattle.fcg_analysis.specs.Nodes.{Node, declared, one_default, first_super_method}
 
 pub data Cause : Type 0 where
   KindMismatch : Cause
   NoSuchMethod : Cause
 
+-- Phantom: the method isn't known, since its owner, or something from which that has methods, isn't. It counts as a method
+-- that is public, abstract and not static, in `is_dispatched`, `goes_on` and `can_override_phantom`.
 pub data Outcome : Type 0 where
   Found : Node → Outcome
   Phantom : Outcome
@@ -36,7 +38,7 @@ method_of_class types s t =
     else found_or (nothing_found types t)
     (or_else (found_in (declared types s) (chain types t))
     (or_else (one_default types t s)
-    (first types t s)))
+    (first_super_method types t s)))
 
 -- an InterfaceMethodref to a known interface
 abbrev pub method_of_interface : List Placed → Signature → Placed → Outcome
@@ -46,7 +48,7 @@ method_of_interface types s t =
     (or_else (declared types s t)
     (or_else (public_of_object types s)
     (or_else (one_default types t s)
-    (first types t s))))
+    (first_super_method types t s))))
 
 -- Object's own method, where Object is present
 abbrev pub method_of_array : List Placed → Ref → Outcome
@@ -67,4 +69,4 @@ method_of_owner types r (Some t) =
 unfoldable pub resolved : List Placed → Ref → Outcome
 resolved types r =
     if has_array_owner r then method_of_array types r
-    else method_of_owner types r (named types r.owner)
+    else method_of_owner types r (type_named types r.owner)

@@ -1,4 +1,4 @@
--- Overriding (JVMS 5.4.5) and selection (JVMS 5.4.6).
+-- Overriding (JVMS 5.4.5) and selection (JVMS 5.4.6; docs/analysis.md, Overriding and selection).
 use Rattle.std.specs.Prelude.{ℕ, zero, suc, List, [], Bool, not, ◌&&◌, ◌||◌, Option, Some, None, find, drop, length, if◌then◌else◌}
 use Rattle.std.specs.List.{list_any}
 use Rattle.fcg_analysis.specs.NamesAndFlags.{same, before, package_of, or_else, found_in}
@@ -15,21 +15,22 @@ between types c a =
 abbrev pub same_package : Node → Node → Bool
 same_package m n = same (package_of m.owner.view.name) (package_of n.owner.view.name)
 
--- the cases that look at the two methods alone
-abbrev pub overrides_itself : Node → Node → Bool
-overrides_itself c a =
+-- the first three cases, which look at the two methods alone
+abbrev pub overrides_directly : Node → Node → Bool
+overrides_directly c a =
     is_public a.method || is_protected a.method || is_package_private a.method && same_package c a
 
-abbrev pub may_override : Node → Node → Bool
-may_override c a =
+-- what all four cases ask: instance methods of one name and descriptor, of which the overriding one isn't private
+abbrev pub is_candidate : Node → Node → Bool
+is_candidate c a =
     is_instance c.method && is_instance a.method && has_signature (signature_of a.method) c.method && not (is_private c.method)
 
 -- the fourth case goes over n classes between at most
 abbrev pub overrides_over : ℕ → List Placed → Node → Node → Bool
-overrides_over zero types c a = may_override c a && overrides_itself c a
+overrides_over zero types c a = is_candidate c a && overrides_directly c a
 overrides_over (suc n) types c a =
-    may_override c a
-    && (overrides_itself c a
+    is_candidate c a
+    && (overrides_directly c a
     || is_package_private a.method
     && list_any (λ t. list_any (λ b. is_type t b.owner && (overrides_over n types c b && overrides_over n types b a)) (nodes types))
     (between types c.owner a.owner))

@@ -1,10 +1,12 @@
--- The method of an `invokespecial` (JVMS 6.5), in a class x with a reference to N.
+-- The method of an `invokespecial` (JVMS 6.5; docs/analysis.md, Special calls), in a class x with a reference to N. Own
+-- choices: an absent superclass counts by its name; an InterfaceMethodref never starts at the superclass; ACC_SUPER counts
+-- as set.
 use Rattle.std.specs.Prelude.{ℕ, List, Bool, true, false, not, ◌&&◌, ◌||◌, Option, Some, None, drop, is_none, codes, option_and_then, if◌then◌else◌}
 use Rattle.std.specs.List.{list_any}
 use Rattle.fcg_views.specs.declared.view.Ref.{Ref}
 use Rattle.fcg_analysis.specs.NamesAndFlags.{same, contains, or_else}
 use Rattle.fcg_analysis.specs.Declarations.{Placed, Signature, signature_in, has_signature, is_named, is_class, is_interface, is_instance, superclass_names}
-use Rattle.fcg_analysis.specs.Types.{named, superclass, line, chain}
+use Rattle.fcg_analysis.specs.Types.{type_named, superclass, line, chain}
 use Rattle.fcg_analysis.specs.Nodes.{Node, one_default}
 use Rattle.fcg_analysis.specs.Resolution.{Outcome, Found, Phantom, Failed, resolved, public_of_object}
 use Rattle.fcg_analysis.specs.Selection.{searched}
@@ -13,13 +15,13 @@ use Rattle.fcg_analysis.specs.Selection.{searched}
 abbrev pub is_superclass_name : List Placed → Placed → List ℕ → Bool
 is_superclass_name types x n =
     let own = line types x in
-    list_any (is_named n) (drop 1 own) || is_none (named types n) && list_any (λ t. contains n (superclass_names t)) own
+    list_any (is_named n) (drop 1 own) || is_none (type_named types n) && list_any (λ t. contains n (superclass_names t)) own
 
 -- where the search starts: at the linked superclass of x, or at the known type N
 abbrev pub search_start : List Placed → Placed → Ref → Option Placed
 search_start types x r =
     if not r.owner_is_interface_ref && is_superclass_name types x r.owner then superclass types x
-    else named types r.owner
+    else type_named types r.owner
 
 -- the method that a search from a type takes
 abbrev pub found_from : List Placed → Signature → Placed → Option Node

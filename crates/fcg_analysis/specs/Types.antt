@@ -1,4 +1,4 @@
--- Which types a set has, and how they stand to one another.
+-- Which types a set has, and how they stand to one another (docs/analysis.md, Types).
 use Rattle.std.specs.Prelude.{ℕ, zero, suc, List, [], ◌∷◌, ◌++◌, Bool, not, ◌&&◌, ◌||◌, Option, Some, None, filter, find, length, option_to_list, is_none, if◌then◌else◌}
 use Rattle.std.specs.List.{list_any}
 use Rattle.fcg_analysis.specs.NamesAndFlags.{same, contains}
@@ -16,7 +16,8 @@ winners_after earlier (t ∷ later) =
 unfoldable pub winners : List Placed → List Placed
 winners views = winners_after [] views
 
--- ---- Links. A type links to the class that its superclass names, and to each interface that it names as an interface.
+-- ---- Links. A type links to the class that its superclass entry names, and to each interface that it names as an
+-- interface. A mention of the wrong kind is no link.
 
 abbrev pub extends : Placed → Placed → Bool
 extends t u = is_class u && contains u.view.name (superclass_names t)
@@ -45,20 +46,21 @@ known views = let types = winners views in filter (λ t. not (is_circular types 
 
 -- From here on `types` are the known types of a set.
 
-abbrev pub named : List Placed → List ℕ → Option Placed
-named types n = find (is_named n) types
+-- the known type of a name
+abbrev pub type_named : List Placed → List ℕ → Option Placed
+type_named types n = find (is_named n) types
 
 abbrev pub object : List Placed → Option Placed
 object types = find (λ t. is_object t && is_class t) types
 
--- ---- Gap. What a type has from above it isn't all known.
+-- ---- Gap. Not all that a type has from above is known.
 
--- t names something to which it has no link, of either kind
-abbrev pub names_past_links : List Placed → Placed → Bool
-names_past_links types t = list_any (λ n. not (list_any (λ u. is_named n u && links t u) types)) (names_of t)
+-- t uses a name to which it has no link, of either kind
+abbrev pub uses_unlinked_name : List Placed → Placed → Bool
+uses_unlinked_name types t = list_any (λ n. not (list_any (λ u. is_named n u && links t u) types)) (names_of t)
 
 unfoldable pub has_gap : List Placed → Placed → Bool
-has_gap types t = is_none (object types) || list_any (names_past_links types) (t ∷ above types t)
+has_gap types t = is_none (object types) || list_any (uses_unlinked_name types) (t ∷ above types t)
 
 -- ---- Chain. The classes in which a method is looked up, one after the other.
 
@@ -80,11 +82,11 @@ chain types t =
     let own = line types t in
     own ++ filter (λ o. is_class t && not (list_any (is_type o) own)) (option_to_list (object types))
 
--- ---- At or below a name. The types of which a value may be where a site names its type.
+-- ---- At or below a name. The types that a receiver may have where a reference names N as its owner.
 
 unfoldable pub is_below : List Placed → Placed → List ℕ → Bool
 is_below types d n =
     let upward = d ∷ above types d in
     same n object_name
     || list_any (is_named n) upward
-    || is_none (named types n) && list_any (λ u. contains n (names_of u)) upward
+    || is_none (type_named types n) && list_any (λ u. contains n (names_of u)) upward

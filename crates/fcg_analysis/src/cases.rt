@@ -2,7 +2,7 @@
 #![tactic(auto, unfolding(crate::specs::Cases::Computed::analysis))]
 
 ghost use Rattle.std.specs.Prelude.{◌≡◌, ℕ, List, [], ◌∷◌, Option, Some, None, map, codes, true, length};
-ghost use Rattle.fcg_analysis.specs.Types.{known, named, has_gap};
+ghost use Rattle.fcg_analysis.specs.Types.{known, type_named, has_gap};
 ghost use Rattle.fcg_analysis.specs.Nodes.{nodes, identity};
 ghost use Rattle.fcg_analysis.specs.Resolution.{KindMismatch, NoSuchMethod, Failed, Phantom, resolved};
 ghost use Rattle.fcg_analysis.specs.Edges.{IsNoCall, IsMethod, IsPhantom, IsFailed, edges, statuses, phantoms, failed};
@@ -105,7 +105,7 @@ pub fn circular_types_case()
     ensures edges { edges (known circular_types) ≡ (1, 0) ∷ [] }
     ensures statuses { statuses (known circular_types) ≡ IsPhantom ∷ [] }
     ensures types { names_of_types (known circular_types) ≡ names ("p/C" ∷ "p/T" ∷ []) }
-    ensures absent { named (known circular_types) (codes "p/A") ≡ None }
+    ensures absent { type_named (known circular_types) (codes "p/A") ≡ None }
     ensures gaps { map (has_gap (known circular_types)) (known circular_types) ≡ true ∷ true ∷ [] }
     ensures below { names_below (known circular_types) "p/A" ≡ names ("p/C" ∷ []) }
     ensures below_object { names_below (known circular_types) "java/lang/Object" ≡ names ("p/C" ∷ "p/T" ∷ []) }

@@ -3,13 +3,13 @@
 #![tactic(auto, unfolding(crate::specs::Cases::Computed::analysis))]
 
 ghost use Rattle.std.specs.Prelude.{◌≡◌, ℕ, List, [], ◌∷◌, Option, Some, None, map, codes, true, false, length};
-ghost use Rattle.fcg_analysis.specs.Types.{known, named, has_gap};
+ghost use Rattle.fcg_analysis.specs.Types.{known, type_named, has_gap};
 ghost use Rattle.fcg_analysis.specs.Nodes.{nodes};
 ghost use Rattle.fcg_analysis.specs.Resolution.{KindMismatch, NoSuchMethod, Failed, resolved};
 ghost use Rattle.fcg_analysis.specs.Edges.{IsNoCall, IsMethod, IsPhantom, IsFailed, edges, statuses, failed};
 ghost use Rattle.fcg_analysis.specs.Reach.{rows};
 ghost use Rattle.fcg_analysis.specs.Cases.ShortForm.{names, names_of_types, names_below, chain_names, overrides, number_in, method_ref, interface_ref};
-ghost use Rattle.fcg_analysis.specs.Cases.Choices.{circle_before_sound, object_interface, release_twice, named_twice, object_at_the_end, superclass_interface, interface_superclass, absent_superclass, object_names_interface, object_absent, first_not_specific, interface_and_object, hidden_by_static, hidden_in_interface, array_sites, array_abstract, array_named, static_between, handed_on, no_package, unrelated, interface_not_between, past_private, abstract_before_default, package_private_default, private_without_receiver, private_with_receiver, interface_alone, interface_not_abstract, static_beside_default, object_below_absent, special_past_absent, special_of_object, special_absent_superclass, special_abstract, special_static, special_private, special_of_static, inherited_init, special_interface, special_public_object, special_protected_object, handle_kinds, handle_receivers, failures};
+ghost use Rattle.fcg_analysis.specs.Cases.Choices.{circle_before_sound, object_interface, release_twice, named_twice, object_at_the_end, superclass_interface, interface_superclass, absent_superclass, named_as_interface, object_names_interface, object_absent, first_not_specific, interface_and_object, hidden_by_static, hidden_in_interface, array_sites, array_abstract, array_named, static_between, handed_on, no_package, unrelated, interface_not_between, past_private, abstract_before_default, package_private_default, private_without_receiver, private_with_receiver, interface_alone, interface_not_abstract, static_beside_default, virtual_init, object_below_absent, special_past_absent, special_of_object, special_absent_superclass, special_abstract, special_static, special_private, special_of_static, inherited_init, special_interface, special_public_object, special_protected_object, handle_kinds, handle_receivers, failures};
 
 /// A circular winner drops the later views of its name, though it counts as absent itself.
 pub fn circle_before_sound_case()
@@ -36,8 +36,8 @@ pub fn release_twice_case()
 /// interface beside another superclass does.
 pub fn named_twice_case()
     ensures statuses { statuses (known named_twice) ≡ IsFailed NoSuchMethod ∷ IsFailed NoSuchMethod ∷ IsPhantom ∷ [] }
-    ensures linked { chain_names (known named_twice) (named (known named_twice) (codes "p/A")) ≡ Some (names ("p/A" ∷ "p/N" ∷ "java/lang/Object" ∷ [])) }
-    ensures unlinked { chain_names (known named_twice) (named (known named_twice) (codes "p/B")) ≡ Some (names ("p/B" ∷ "java/lang/Object" ∷ [])) }
+    ensures linked { chain_names (known named_twice) (type_named (known named_twice) (codes "p/A")) ≡ Some (names ("p/A" ∷ "p/N" ∷ "java/lang/Object" ∷ [])) }
+    ensures unlinked { chain_names (known named_twice) (type_named (known named_twice) (codes "p/B")) ≡ Some (names ("p/B" ∷ "java/lang/Object" ∷ [])) }
 {}
 
 /// Object is added to a chain that ends before it, so its methods are found, whatever their flags, and selected before a
@@ -62,6 +62,12 @@ pub fn interface_superclass_case()
 /// Below an absent name stand the classes that name it in either way, whatever the reference's kind is.
 pub fn absent_superclass_case()
     ensures edges { edges (known absent_superclass) ≡ (1, 0) ∷ [] }
+{}
+
+/// A class isn't below a known class that it names as an interface; below an absent one it is, also for a Methodref.
+pub fn named_as_interface_case()
+    ensures edges { edges (known named_as_interface) ≡ (2, 0) ∷ (3, 1) ∷ [] }
+    ensures statuses { statuses (known named_as_interface) ≡ IsMethod ∷ IsPhantom ∷ [] }
 {}
 
 /// The names that Object's view has aren't used: Object isn't below them.
@@ -188,6 +194,11 @@ pub fn interface_not_abstract_case()
 pub fn static_beside_default_case()
     ensures edges { edges (known static_beside_default) ≡ [] }
     ensures statuses { statuses (known static_beside_default) ≡ IsMethod ∷ [] }
+{}
+
+/// By a virtual call an `<init>` is a name as any other.
+pub fn virtual_init_case()
+    ensures edges { edges (known virtual_init) ≡ (2, 0) ∷ (2, 1) ∷ [] }
 {}
 
 /// The superclass name of Object's view isn't used: it makes no gap, and no special call starts by it.

@@ -3,14 +3,14 @@ ghost use Rattle.std.specs.Prelude.{◌≡◌, ◌↔◌, ◌<◌, ◌+◌, ℕ,
 ghost use Rattle.std.specs.List.{IsDistinct, list_any, range_with_len};
 ghost use Rattle.std.specs.List.Sorted.{IsStrictlySortedBy};
 ghost use Rattle.fcg_analysis.specs.Declarations.{Placed, Signature, is_named, is_type, is_class, is_interface};
-ghost use Rattle.fcg_analysis.specs.Types.{winners, known, named, links, extends, implements, above, line, chain, superclass};
+ghost use Rattle.fcg_analysis.specs.Types.{winners, known, type_named, links, extends, implements, above, line, chain, superclass};
 ghost use Rattle.fcg_analysis.specs.Walks.{Walk};
 ghost use Rattle.fcg_analysis.specs.Nodes.{Node, nodes};
 ghost use Rattle.fcg_analysis.specs.Resolution.{Found, Phantom};
 ghost use Rattle.fcg_analysis.specs.Selection.{can_override, selected};
 ghost use Rattle.fcg_analysis.specs.Edges.{edges};
 ghost use Rattle.fcg_analysis.specs.Reach.{Edges, dist, next};
-ghost use Rattle.fcg_analysis.specs.Laws.{IsAcyclic, line_above, chain_above, overrides_shortly, overrides_by_cases, unless_circular, IsEdge, edge_cmp, DistIsLeast, IsNext, IsSelected, IsSelectedForPhantom};
+ghost use Rattle.fcg_analysis.specs.Laws.Statements.{IsAcyclic, line_above, chain_above, overrides_shortly, overrides_by_cases, unless_circular, IsEdge, edge_cmp, DistIsLeast, IsNext, IsSelected, IsSelectedForPhantom};
 
 /// The winner of a name is the first view of the name, and no two winners have one name.
 pub fn winners_are_first()
@@ -21,7 +21,7 @@ pub fn winners_are_first()
 /// The known type of a name is the first view of the name, unless that is circular; and no two have one name.
 pub fn known_types_are_first()
     ensures distinct { (views : List Placed) → IsDistinct is_type (known views) }
-    ensures first { (views : List Placed) (n : List ℕ) → named (known views) n ≡ unless_circular (winners views) (find (is_named n) views) }
+    ensures first { (views : List Placed) (n : List ℕ) → type_named (known views) n ≡ unless_circular (winners views) (find (is_named n) views) }
 {}
 
 /// No walk of links leads from a known type back to itself: it isn't above itself.

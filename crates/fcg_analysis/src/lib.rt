@@ -1,13 +1,14 @@
 //! The rules of the analysis, over a list of views with their coordinates: which types a set has, what a site's reference
 //! resolves to, which methods a call may reach, the edges between methods, and the methods that reach a target. specs/ has
 //! a definition for each. Beside them stand worked cases, which the definitions compute to their numbers; cases that tell
-//! two readings of a rule apart; and laws that hold of all lists of views. The crate has no code that runs: each function
+//! two readings of a rule apart, and a rule from one with a condition less; and laws that hold of all lists of views. The crate has no code that runs: each function
 //! is empty, and its contract is the law. It stands on the words of formats and on the views.
 //! In proofs/General are lemmas on lists, on numbers in a row, on lists that rise and on walks, for every crate above.
 #![tactic(auto)]
 
 mod cases;
 mod choices;
+mod conditions;
 mod laws;
 
 pub use cases::{
@@ -23,12 +24,22 @@ pub use choices::{
     handed_on_case, handle_kinds_case, handle_receivers_case, hidden_by_static_case,
     hidden_in_interface_case, inherited_init_case, interface_alone_case, interface_and_object_case,
     interface_not_abstract_case, interface_not_between_case, interface_superclass_case,
-    named_twice_case, no_edge_case, no_package_case, object_absent_case, object_at_the_end_case,
-    object_below_absent_case, object_interface_case, object_names_interface_case,
-    package_private_default_case, past_private_case, private_receivers_case, release_twice_case,
-    special_absent_superclass_case, special_interface_case, special_of_object_case,
-    special_search_case, static_beside_default_case, static_between_case,
-    superclass_interface_case, unrelated_case,
+    named_as_interface_case, named_twice_case, no_edge_case, no_package_case, object_absent_case,
+    object_at_the_end_case, object_below_absent_case, object_interface_case,
+    object_names_interface_case, package_private_default_case, past_private_case,
+    private_receivers_case, release_twice_case, special_absent_superclass_case,
+    special_interface_case, special_of_object_case, special_search_case,
+    static_beside_default_case, static_between_case, superclass_interface_case, unrelated_case,
+    virtual_init_case,
+};
+pub use conditions::{
+    absent_init_case, array_kinds_case, class_before_default_case, class_beside_default_case,
+    class_beside_receiver_case, default_below_absent_case, found_in_interfaces_case,
+    gap_above_case, gap_of_interface_above_case, inner_packages_case, interface_below_beside_case,
+    interface_init_case, interface_of_superclass_case, named_above_case, overloads_case,
+    private_above_case, special_absent_interface_case, special_default_case, special_failures_case,
+    special_interface_ref_case, special_own_case, special_superclass_default_case,
+    static_below_absent_case, static_call_of_instance_case,
 };
 pub use laws::{
     above_goes_on, above_is_transitive, above_is_walks, chains_go_on, circles_are_of_one_kind,

@@ -7,27 +7,8 @@ use Rattle.fcg_views.specs.declared.view.Method.{Method}
 use Rattle.fcg_views.specs.declared.view.Site.{Site}
 use Rattle.fcg_views.specs.declared.view.View.{View}
 use Rattle.fcg_analysis.specs.Declarations.{Placed, object_name}
-use Rattle.fcg_analysis.specs.Cases.ShortForm.{call, interface_call, method, open_method, abstract_method, static_method, type_with, class_of, class_below, class_with, abstract_class, interface_of, object_of, release}
+use Rattle.fcg_analysis.specs.Cases.ShortForm.{call, interface_call, method, open_method, abstract_method, static_method, type_with, class_of, class_below, class_with, abstract_class, interface_of, object_of, release, caller, k_calling, m, abstract_m, package_m, private_m, static_m}
 use Rattle.fcg_analysis.specs.Cases.Sets.{self_call}
-
--- p/T with one method that has these sites
-abbrev caller : List Site → View
-caller sites = class_of "p/T" (static_method "t" "()V" sites ∷ [])
-
-abbrev m : Method
-m = open_method "m" "()V"
-
-abbrev abstract_m : Method
-abstract_m = abstract_method "m" "()V"
-
-abbrev package_m : Method
-package_m = method 0 "m" "()V" []
-
-abbrev private_m : Method
-private_m = method 0x0002 "m" "()V" []
-
-abbrev static_m : Method
-static_m = static_method "m" "()V" []
 
 abbrev virtual_m : List Site
 virtual_m = call Virtual "p/A" "m" "()V" ∷ []
@@ -102,6 +83,17 @@ abbrev pub absent_superclass : List Placed
 absent_superclass = release "g:a:1" (
     class_below "x/N" "p/A" (m ∷ [])
     ∷ caller (interface_call Interface "x/N" "m" "()V" ∷ [])
+    ∷ [])
+
+-- a class that names a known class as an interface, and an absent one, both called by Methodrefs
+abbrev pub named_as_interface : List Placed
+named_as_interface = release "g:a:1" (
+    class_of "p/N" (m ∷ [])
+    ∷ class_with "java/lang/Object" ("p/N" ∷ "x/Y" ∷ []) "p/A" (m ∷ [])
+    ∷ class_of "p/T" (
+    static_method "t" "()V" (call Virtual "p/N" "m" "()V" ∷ [])
+    ∷ static_method "u" "()V" (call Virtual "x/Y" "m" "()V" ∷ [])
+    ∷ [])
     ∷ [])
 
 -- Object names an absent interface
@@ -296,10 +288,15 @@ static_beside_default = release "g:a:1" (
     ∷ caller virtual_m
     ∷ [])
 
--- ---- Special calls. p/C is the class whose method k calls.
+-- an `<init>` by a virtual call
+abbrev pub virtual_init : List Placed
+virtual_init = release "g:a:1" (
+    class_of "p/A" (open_method "<init>" "()V" ∷ [])
+    ∷ class_below "p/A" "p/B" (open_method "<init>" "()V" ∷ [])
+    ∷ caller (call Virtual "p/A" "<init>" "()V" ∷ [])
+    ∷ [])
 
-abbrev k_calling : Site → List Method
-k_calling site = method 0x0001 "k" "()V" (site ∷ []) ∷ []
+-- ---- Special calls
 
 -- Object's view names a superclass, which a class below Object calls
 abbrev pub object_below_absent : List Placed

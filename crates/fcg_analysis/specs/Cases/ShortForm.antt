@@ -1,6 +1,6 @@
 -- Views in the short form in which the worked cases are written: names as texts, and of a set what its releases have.
 use Prim.Native.String.{String}
-use Rattle.std.specs.Prelude.{◌&&◌, ◌==◌, ℕ, List, [], Bool, true, false, Option, Some, None, map, filter, codes, option_map}
+use Rattle.std.specs.Prelude.{◌&&◌, ◌==◌, ℕ, List, [], ◌∷◌, Bool, true, false, Option, Some, None, map, filter, codes, option_map}
 use Rattle.std.specs.List.{list_any}
 use Rattle.fcg_views.specs.declared.view.View.{View}
 use Rattle.fcg_views.specs.declared.view.Method.{Method}
@@ -93,6 +93,31 @@ object_of methods = type_with 0x0021 None "java/lang/Object" [] methods
 -- the views of a release
 abbrev pub release : String → List View → List Placed
 release coordinate views = map (λ v. record { coordinate = codes coordinate; view = v }) views
+
+-- ---- What many sets have
+
+abbrev pub m : Method
+m = open_method "m" "()V"
+
+abbrev pub abstract_m : Method
+abstract_m = abstract_method "m" "()V"
+
+abbrev pub package_m : Method
+package_m = method 0 "m" "()V" []
+
+abbrev pub private_m : Method
+private_m = method 0x0002 "m" "()V" []
+
+abbrev pub static_m : Method
+static_m = static_method "m" "()V" []
+
+-- p/T with one method that has these sites
+abbrev pub caller : List Site → View
+caller sites = class_of "p/T" (static_method "t" "()V" sites ∷ [])
+
+-- the method k, which makes a special call
+abbrev pub k_calling : Site → List Method
+k_calling site = method 0x0001 "k" "()V" (site ∷ []) ∷ []
 
 -- ---- What the cases ask
 

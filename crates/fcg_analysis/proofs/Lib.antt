@@ -10,3 +10,4 @@ pub mod SelectedLaws
 pub mod EdgeLaws
 pub mod ReachLaws
 pub mod NextLaws
+pub mod NameLaws

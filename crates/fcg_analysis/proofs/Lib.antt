@@ -11,3 +11,4 @@ pub mod EdgeLaws
 pub mod ReachLaws
 pub mod NextLaws
 pub mod NameLaws
+pub mod ChainParts

@@ -1,3 +1,5 @@
 -- What the laws say.
 pub mod Statements
 pub mod ByName
+pub mod ChainParts
+pub mod Methods

@@ -50,6 +50,7 @@ pub use laws::{
     winners_are_first,
 };
 pub use type_laws::{
-    above_by_name, all_views_are_known, below_is_above, gaps_go_on, known_types_are_winners,
-    links_are_found_by_name, unlinked_names_by_name, winners_go_on,
+    above_by_name, all_views_are_known, below_is_above, chains_are_of_types, chains_are_shared,
+    gaps_go_on, known_types_are_winners, links_are_found_by_name, unlinked_names_by_name,
+    winners_go_on,
 };

@@ -1,12 +1,13 @@
 //! Laws of the types that a set has, and of how they stand to one another.
-ghost use Rattle.std.specs.Prelude.{◌≡◌, ◌↔◌, ℕ, true, false, List, [], ◌∷◌, ◌++◌, Contains, filter, Bool, not, ◌&&◌, ◌||◌, is_none, if◌then◌else◌};
+ghost use Rattle.std.specs.Prelude.{◌≡◌, ◌↔◌, ◌⊎◌, ℕ, true, false, List, [], ◌∷◌, ◌++◌, Contains, filter, drop, Bool, not, ◌&&◌, ◌||◌, Some, is_none, if◌then◌else◌};
 ghost use Rattle.std.specs.List.{IsDistinct, list_any};
 ghost use Rattle.fcg_analysis.specs.NamesAndFlags.{same};
 ghost use Rattle.fcg_analysis.specs.Walks.{Walk};
-ghost use Rattle.fcg_analysis.specs.Declarations.{Placed, object_name, is_type, superclass_names, interface_names, names_of};
-ghost use Rattle.fcg_analysis.specs.Types.{winners, known, type_named, object, links, implements, above, is_above, superclass, uses_unlinked_name, has_gap, is_below};
+ghost use Rattle.fcg_analysis.specs.Declarations.{Placed, object_name, is_type, is_object, is_class, is_interface, superclass_names, interface_names, names_of};
+ghost use Rattle.fcg_analysis.specs.Types.{winners, known, type_named, object, links, implements, above, is_above, superclass, uses_unlinked_name, has_gap, chain, is_below};
 ghost use Rattle.fcg_analysis.specs.Laws.Statements.{IsAcyclic};
 ghost use Rattle.fcg_analysis.specs.Laws.ByName.{class_named, interface_passes, links_to, is_below_itself};
+ghost use Rattle.fcg_analysis.specs.Laws.ChainParts.{IsShared, EndsWith};
 
 /// A view more at the end wins where no earlier view has its name. So the winners stand in the order of the views.
 pub fn winners_go_on()
@@ -54,4 +55,20 @@ pub fn below_is_above()
     ensures of_known { (types : List Placed) (d u : Placed) → Contains types u → same u.view.name object_name ≡ false → is_below types d u.view.name ≡ (is_type u d || is_above types d u) }
     ensures of_object { (types : List Placed) (d : Placed) → is_below types d object_name ≡ true }
     ensures on { (types : List Placed) (d : Placed) (n : List ℕ) → is_below types d n ≡ (is_below_itself types d n || list_any (λ u. links d u && is_below types u n) types) }
+{}
+
+/// The types of a chain are known, each once, and classes but for the first; those after the first are above it, or Object. The
+/// chain of an interface is the interface alone.
+pub fn chains_are_of_types()
+    ensures members { (types : List Placed) → IsAcyclic types → (t u : Placed) → Contains types t → Contains (chain types t) u → Contains types u }
+    ensures once { (types : List Placed) → IsAcyclic types → IsDistinct is_type types → (t : Placed) → Contains types t → IsDistinct is_type (chain types t) }
+    ensures classes { (types : List Placed) → IsAcyclic types → (t u : Placed) → Contains types t → Contains (drop 1 (chain types t)) u → is_class u ≡ true }
+    ensures interface { (types : List Placed) (t : Placed) → Contains types t → is_interface t ≡ true → chain types t ≡ t ∷ [] }
+    ensures are_above { (types : List Placed) → IsAcyclic types → (t u : Placed) → Contains types t → Contains (drop 1 (chain types t)) u → Contains (above types t) u ⊎ (is_object u ≡ true) }
+{}
+
+/// From a type of a chain on it is that type's chain; and the chain of a class ends with Object, where Object is present.
+pub fn chains_are_shared()
+    ensures shared { (types : List Placed) → IsAcyclic types → (t u : Placed) → Contains types t → Contains (chain types t) u → IsShared types t u }
+    ensures ends { (types : List Placed) → IsAcyclic types → IsDistinct is_type types → (t o : Placed) → Contains types t → is_class t ≡ true → object types ≡ Some o → EndsWith types t o }
 {}

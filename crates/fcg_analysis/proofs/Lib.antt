@@ -12,3 +12,5 @@ pub mod ReachLaws
 pub mod NextLaws
 pub mod NameLaws
 pub mod ChainParts
+pub mod NodeMembers
+pub mod SuperMethods

@@ -10,7 +10,8 @@ mod cases;
 mod choices;
 mod conditions;
 mod laws;
-mod type_laws;
+pub mod method_laws;
+pub mod type_laws;
 
 pub use cases::{
     absent_interface_case, circular_types_case, default_below_case, default_beside_abstract_case,
@@ -48,9 +49,4 @@ pub use laws::{
     known_types_are_acyclic, known_types_are_first, lines_go_on, nexts_are_nearer,
     numbers_are_places, overriding_is_its_cases, overriding_put_shortly, selected_methods_override,
     winners_are_first,
-};
-pub use type_laws::{
-    above_by_name, all_views_are_known, below_is_above, chains_are_of_types, chains_are_shared,
-    gaps_go_on, known_types_are_winners, links_are_found_by_name, unlinked_names_by_name,
-    winners_go_on,
 };

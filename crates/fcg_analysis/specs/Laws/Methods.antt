@@ -1,5 +1,5 @@
 -- Nodes as methods of types, and superinterface methods.
-use Rattle.std.specs.Prelude.{◌≡◌, ◌⊎◌, true, false, List, Contains, Bool, flat_map, map}
+use Rattle.std.specs.Prelude.{◌≡◌, ◌⊎◌, true, false, List, Contains, flat_map, map}
 use Rattle.fcg_views.specs.declared.view.Method.{Method}
 use Rattle.fcg_analysis.specs.Declarations.{Placed, Signature, signature_of, has_signature, is_interface, is_private, is_static}
 use Rattle.fcg_analysis.specs.Types.{above, is_above}

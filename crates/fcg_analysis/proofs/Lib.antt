@@ -14,3 +14,6 @@ pub mod NameLaws
 pub mod ChainParts
 pub mod NodeMembers
 pub mod SuperMethods
+pub mod ResolvedLaws
+pub mod SearchLaws
+pub mod SpecialLaws

@@ -3,3 +3,4 @@ pub mod Statements
 pub mod ByName
 pub mod ChainParts
 pub mod Methods
+pub mod Searches

@@ -11,6 +11,7 @@ mod choices;
 mod conditions;
 mod laws;
 pub mod method_laws;
+pub mod selection_laws;
 pub mod type_laws;
 
 pub use cases::{

@@ -17,3 +17,6 @@ pub mod SuperMethods
 pub mod ResolvedLaws
 pub mod SearchLaws
 pub mod SpecialLaws
+pub mod MeetLaws
+pub mod CountLaws
+pub mod RowLaws

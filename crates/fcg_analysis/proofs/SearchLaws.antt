@@ -27,7 +27,7 @@ use Rattle.fcg_analysis.proofs.WinnerLaws.{name_of_type}
 
 -- ---- candidates
 
-not_true : (b : Bool) → not b ≡ true → b ≡ false
+pub not_true : (b : Bool) → not b ≡ true → b ≡ false
 not_true true h = absurd (cc)
 not_true false h = refl
 

@@ -9,6 +9,7 @@
 mod cases;
 mod choices;
 mod conditions;
+pub mod edge_laws;
 mod laws;
 pub mod method_laws;
 pub mod selection_laws;

@@ -25,3 +25,6 @@ pub mod MadeLaws
 pub mod RowParts
 pub mod AccessLaws
 pub mod ShownLaws
+pub mod RowLaws
+pub mod ValidLaws
+pub mod SizeLaws

@@ -1,5 +1,6 @@
 -- Words of the contracts of private functions: no public contract needs them.
 pub mod RowPlaces
+pub mod StandingRows
 pub mod Representation
 pub mod UsedNumbers
 pub mod NameTable

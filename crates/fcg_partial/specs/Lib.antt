@@ -4,4 +4,5 @@ pub mod Fault
 pub mod Reading
 pub mod Written
 pub mod Accessors
+pub mod Sizes
 pub mod Internal

@@ -13,7 +13,7 @@ use Rattle.fcg_views.specs.declared.view.Site.{Site}
 use Rattle.fcg_views.specs.Valid.{site_count, sites_of_all, count_of_option, method_names, own_names, view_names, name_count}
 use Rattle.fcg_partial.specs.Graph.{name_text, ref_text, site_text, field_text, method_text, type_text, spelling}
 use Rattle.fcg_partial.specs.Views.{type_row, graph_by, names_of, refs_of, graph_of, text_of}
-use Rattle.fcg_partial.specs.Written.{written_site, written_field, written_method, written_name, written_head, written_members, written_type, written_tables, written}
+use Rattle.fcg_partial.specs.Internal.Written.{written_site, written_field, written_method, written_name, written_head, written_members, written_type, written_tables, written}
 use Rattle.fcg_partial.specs.Sizes.{HasAtMost}
 use Rattle.fcg_partial.proofs.IndexLaws.{length_map}
 use Rattle.fcg_partial.proofs.SpelledViews.{written_is}

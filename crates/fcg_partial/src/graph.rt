@@ -2,25 +2,27 @@
 ghost use Rattle.std.specs.Prelude.{◌≡◌, ◌↔◌, ◌<◌, ◌^◌, ℕ, List, All, length, slice_get, Some, Ok, IfOk, IsTrue};
 ghost use Rattle.fcg_grammar.specs.Reading.{seen, Gives};
 ghost use Rattle.fcg_grammar.specs.Spell.{IsBytes};
+ghost use Rattle.fcg_grammar.specs.Table.{table};
 ghost use Rattle.fcg_partial.specs.Graph.{Graph, StoredType, StoredField, StoredMethod, StoredSite, IsGraph, spelling};
 ghost use Rattle.fcg_views.specs.Valid.{IsValid, name_count};
 ghost use Rattle.fcg_partial.specs.Views.{shown, graph_of, text_of};
 ghost use Rattle.fcg_partial.specs.Reading.{graph_at};
 ghost use Rattle.fcg_partial.specs.Internal.RowPlaces.{text_at, HasText};
 ghost use Rattle.fcg_partial.specs.Accessors.{row_of_type, row_of_field, row_of_method, row_of_site, row_of_ref, HasType, HasInterface, HasField, HasMethod, HasSite, HasRef, type_in, method_in, HasCountsOf, AreBelow, IsRowBelow, IsSuperBelow};
+ghost use Rattle.fcg_partial.specs.Internal.Written.{collected};
 ghost use Rattle.fcg_partial.specs.Internal.StandingRows.{IsTypeAt, IsMethodAt, IsRefAt};
 ghost use Rattle.fcg_partial.specs.Sizes.{HasAtMost};
 
 use crate::fault::RecordFault;
 use crate::index::{Index, find_rows};
-use crate::intern::{make_name_table, make_ref_table};
+use crate::intern::{Hints, collect_names, make_hints, make_name_table, make_ref_table};
 use crate::row::{
     FieldRow, MethodRow, RefRow, SiteRow, TypeRow, find_fields, load_field, load_method, load_ref,
     load_site, load_type, load_u4,
 };
 use crate::write::write_graph;
 use fcg_grammar::ReadError;
-use fcg_views::{Bytes, NoMemory, View, Views};
+use fcg_views::{Bytes, Name, NoMemory, View, Views};
 use std::alloc::{AllocError, Global};
 use std::marker::Model;
 
@@ -52,6 +54,24 @@ fn tell_bytes(bytes: &[u8])
     ensures { IsBytes bytes.now }
 {}
 
+// The bytes that spell the views, by the table of their names.
+fn write_views(
+    alloc: Global,
+    views: &[View],
+    names: &[Name],
+    mut hints: Hints,
+) -> Result<Vec<u8>, AllocError>
+    requires fits { name_count views.now < 2 ^ 32 }
+    requires valid { All IsValid views.now }
+    requires names { names.now ≡ table (collected views.now) }
+    ensures text { IfOk result (λ out. out.items ≡ text_of views.now) }
+    ensures graph { IfOk result (λ out. IsGraph (graph_of views.now)) }
+{
+    let refs = make_ref_table(alloc, names, views, &mut hints)?;
+    hints.restart();
+    write_graph(alloc, names, refs.as_slice(), views, &mut hints)
+}
+
 // The bytes that spell the views.
 fn spell_views(alloc: Global, views: &[View]) -> Result<Vec<u8>, AllocError>
     requires fits { name_count views.now < 2 ^ 32 }
@@ -59,10 +79,10 @@ fn spell_views(alloc: Global, views: &[View]) -> Result<Vec<u8>, AllocError>
     ensures text { IfOk result (λ out. out.items ≡ text_of views.now) }
     ensures graph { IfOk result (λ out. IsGraph (graph_of views.now)) }
 {
-    let names = make_name_table(alloc, views)?;
-    let refs = make_ref_table(alloc, &names, views)?;
-    let out = write_graph(alloc, &names, &refs, views)?;
-    Ok(out)
+    let mentions = collect_names(alloc, views)?;
+    let names = make_name_table(alloc, &mentions)?;
+    let hints = make_hints(alloc, names.as_slice(), mentions)?;
+    write_views(alloc, views, names.as_slice(), hints)
 }
 
 impl Model for PartialGraph {

@@ -3,7 +3,7 @@ ghost use Rattle.std.specs.Prelude.{◌≡◌, ◌<◌, ◌^◌, ℕ, List, All,
 ghost use Rattle.fcg_grammar.specs.Spell.{IsBytes};
 ghost use Rattle.fcg_views.specs.declared.view.View.{View};
 ghost use Rattle.fcg_views.specs.Valid.{IsValid, name_count};
-ghost use Rattle.fcg_partial.specs.Written.{IsSmallView};
+ghost use Rattle.fcg_partial.specs.SmallNumbers.{IsSmallView};
 ghost use Rattle.fcg_partial.specs.Graph.{Graph, IsGraph, spelling};
 ghost use Rattle.fcg_partial.specs.Views.{shown, graph_of, text_of};
 ghost use Rattle.fcg_partial.specs.Reading.{graph_at};

@@ -10,6 +10,7 @@ mod index;
 mod intern;
 mod laws;
 mod marks;
+mod mentions;
 mod methods;
 mod names;
 mod number;

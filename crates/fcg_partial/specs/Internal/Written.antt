@@ -7,22 +7,23 @@ use Rattle.fcg_views.specs.declared.view.Method.{Method}
 use Rattle.fcg_views.specs.declared.view.Field.{Field}
 use Rattle.fcg_views.specs.declared.view.Site.{Site}
 use Rattle.fcg_partial.specs.Graph.{kind_number, name_text, ref_text, super_number}
-use Rattle.fcg_partial.specs.Views.{names_of_ref, names_of_view, ref_row, super_number_of}
+use Rattle.fcg_partial.specs.Views.{names_of_ref, names_of_super, names_of_field, ref_row, super_number_of}
 use Rattle.fcg_grammar.specs.Table.{place, Rises}
 
--- ---- the names in the references that sites name, and their rows
+-- ---- the names, each as often as it stands, in the order in which the types are written
 abbrev pub site_names : Site → List (List ℕ)
 site_names s = names_of_ref s.target
 
-abbrev pub method_site_names : Method → List (List ℕ)
-method_site_names m = flat_map site_names m.sites
+abbrev pub collected_of_method : Method → List (List ℕ)
+collected_of_method m = m.name ∷ m.desc ∷ flat_map site_names m.sites
 
-abbrev pub view_site_names : View → List (List ℕ)
-view_site_names v = flat_map method_site_names v.methods
+abbrev pub collected_of_view : View → List (List ℕ)
+collected_of_view v = v.name ∷ (names_of_super v.superclass ++ (v.interfaces ++ (flat_map names_of_field v.fields ++ flat_map collected_of_method v.methods)))
 
 abbrev pub collected : List View → List (List ℕ)
-collected views = flat_map view_site_names views ++ flat_map names_of_view views
+collected views = flat_map collected_of_view views
 
+-- ---- the rows of the references that sites name
 abbrev pub site_rows : List (List ℕ) → Site → List (List ℕ)
 site_rows names s = ref_row names s.target ∷ []
 
@@ -75,19 +76,3 @@ pub record HasCounts (v : View) : Type 0 where
   pub fields : length v.fields < 2 ^ 16
   pub methods : length v.methods < 2 ^ 16
   pub sites : All HasFewSites v.methods
-
--- ---- numbers that have two bytes each, as the types of the views' fields have it
-abbrev pub IsSmallSite : Site → Type 0
-IsSmallSite s = s.pc < 2 ^ 16
-
-abbrev pub IsSmallField : Field → Type 0
-IsSmallField f = f.flags < 2 ^ 16
-
-pub record IsSmallMethod (m : Method) : Type 0 where
-  pub flags : m.flags < 2 ^ 16
-  pub sites : All IsSmallSite m.sites
-
-pub record IsSmallView (v : View) : Type 0 where
-  pub flags : v.flags < 2 ^ 16
-  pub fields : All IsSmallField v.fields
-  pub methods : All IsSmallMethod v.methods

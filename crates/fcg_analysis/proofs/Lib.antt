@@ -10,3 +10,13 @@ pub mod SelectedLaws
 pub mod EdgeLaws
 pub mod ReachLaws
 pub mod NextLaws
+pub mod NameLaws
+pub mod ChainParts
+pub mod NodeMembers
+pub mod SuperMethods
+pub mod ResolvedLaws
+pub mod SearchLaws
+pub mod SpecialLaws
+pub mod MeetLaws
+pub mod CountLaws
+pub mod RowLaws

@@ -12,7 +12,7 @@ use Rattle.fcg_analysis.proofs.General.Walking.{closed, led_from_walk, walk_from
 
 module _ (types : List Placed) (acyclic : IsAcyclic types) where
   -- how many types are above t
-  height : Placed → ℕ
+  pub height : Placed → ℕ
   height t = length (above types t)
 
   is_up : Placed → Placed → Bool
@@ -22,7 +22,7 @@ module _ (types : List Placed) (acyclic : IsAcyclic types) where
   unfolding is_up above
   as_filter t = closed links types t
 
-  height_less : (s t : Placed) → Walk links types t s → Contains types s → height s < height t
+  pub height_less : (s t : Placed) → Walk links types t s → Contains types s → height s < height t
   unfolding height above
   height_less s t w c =
       elim (same_or_more_in (is_up t) (is_up s) types more) [
@@ -40,7 +40,7 @@ module _ (types : List Placed) (acyclic : IsAcyclic types) where
           let x : Walk links types t u = walk_joined w (walk_from_led links types s u (Contains-from_IsIn _ u v)) in
           (in_filter (is_up t) types u (subst (IsIn u) (sym (as_filter t)) (IsIn-from_Contains _ u (led_from_walk links types t u x)))).1
 
-  height_small : (t : Placed) → Contains types t → height t < length types
+  pub height_small : (t : Placed) → Contains types t → height t < length types
   unfolding height above
   height_small t c =
       let none : is_up t t ≡ false = false_from_ne_true _ (λ k. acyclic t c (walk_from_led links types t t (Contains-from_IsIn _ t (subst (IsIn t) (as_filter t) (filter_in (is_up t) types t (IsIn-from_Contains _ t c) k))))) in

@@ -24,7 +24,7 @@ first_step : (es : Edges) (count target m k : ℕ) → WalkOf es count target m 
 first_step es count target m k (onward {u = u} l h w) = (u, l, h, w)
 
 module _ (es : Edges) (count target : ℕ) where
-  begins_below : (k u : ℕ) → target < count → WalkOf es count target u k → u < count
+  pub begins_below : (k u : ℕ) → target < count → WalkOf es count target u k → u < count
   begins_below zero target t here = t
   begins_below (suc k) u t (onward l h w) = l
 
@@ -48,13 +48,13 @@ module _ (es : Edges) (count target m : ℕ) where
       }
 
   -- the first step of a least walk
-  record First (d : ℕ) : Type 0 where
-    node : ℕ
-    small : node < count
-    leads' : leads es m node ≡ true
-    near : dist es count target node ≡ Some d
+  pub record First (d : ℕ) : Type 0 where
+    pub node : ℕ
+    pub small : node < count
+    pub leads' : leads es m node ≡ true
+    pub near : dist es count target node ≡ Some d
 
-  walk_first : (d : ℕ) → target < count → dist es count target m ≡ Some (suc d) → WalkOf es count target m (suc d) → First d
+  pub walk_first : (d : ℕ) → target < count → dist es count target m ≡ Some (suc d) → WalkOf es count target m (suc d) → First d
   walk_first d t e w =
       let s = first_step es count target m d w in
       record { node = s.0; small = begins_below es count target d s.0 t s.3; leads' = s.2; near = exact s.0 s.1 s.2 s.3 (dist es count target s.0) refl }

@@ -274,7 +274,7 @@ module _ (types : List Placed) (acyclic : IsAcyclic types) (distinct : IsDistinc
 
 -- ---- and no less
 
-over_directly : (n : ℕ) (types : List Placed) (c a : Node) → is_candidate c a ≡ true → overrides_directly c a ≡ true → overrides_over n types c a ≡ true
+pub over_directly : (n : ℕ) (types : List Placed) (c a : Node) → is_candidate c a ≡ true → overrides_directly c a ≡ true → overrides_over n types c a ≡ true
 over_directly zero types c a m i = and_from (is_candidate c a) (overrides_directly c a) m i
 over_directly (suc n) types c a m i = and_from (is_candidate c a) _ m (or_left (overrides_directly c a) _ i)
 

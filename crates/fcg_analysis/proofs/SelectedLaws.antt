@@ -30,7 +30,7 @@ search_found types test line c e =
       passes = and_second (is_type f.at c.owner) (test c) n.1;
     }
 
-either : {X : Type 0} (o p : Option X) (x : X) → or_else o p ≡ Some x → (o ≡ Some x) ⊎ (p ≡ Some x)
+pub either : {X : Type 0} (o p : Option X) (x : X) → or_else o p ≡ Some x → (o ≡ Some x) ⊎ (p ≡ Some x)
 either None p x h = inr h
 either (Some y) p x h = inl h
 

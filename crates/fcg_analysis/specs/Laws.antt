@@ -1,2 +1,6 @@
 -- What the laws say.
 pub mod Statements
+pub mod ByName
+pub mod ChainParts
+pub mod Methods
+pub mod Searches

@@ -10,7 +10,11 @@
 mod cases;
 mod choices;
 pub mod conditions;
+pub mod edge_laws;
 mod laws;
+pub mod method_laws;
+pub mod selection_laws;
+pub mod type_laws;
 
 pub use cases::{
     absent_interface_case, circular_types_case, default_below_case, default_beside_abstract_case,

@@ -32,7 +32,7 @@ use Rattle.fcg_class.specs.declared.bundle.BundleFault.{BundleFault}
 use Rattle.fcg_class.specs.declared.bundle.BundleFault.TheVariants.{Jar}
 use Rattle.fcg_class.specs.declared.bundle.BundleRule.TheVariants.{Magic, Version, Cut, Path, Trailing, ManySites}
 use Rattle.fcg_class.specs.Path.{is_path_length, is_path, is_class_path, is_versioned}
-use Rattle.fcg_class.specs.Bundle.{Entry, entry, bundle, Holds, IsEntryOf, some_of, shown, views_of, sites_in, Content, broken, path_at, in_entry, held, body_at, Begun, entry_at, entries_of, is_jar, bundle_of, BundleVerdict, IsContent, IsBroken}
+use Rattle.fcg_class.specs.Bundle.{Entry, entry, bundle, Holds, IsEntryOf, some_of, shown, views_of, sites_in, Content, broken, path_at, in_entry, held, body_at, EntriesBefore, entry_at, entries_of, is_jar, bundle_of, BundleVerdict, IsContent, IsBroken}
 
 in_entry_ok : (k : ℕ) (r : Result (Option View) ClassFault) (v : Option View) → in_entry k r ≡ Ok v → r ≡ Ok v
 in_entry_ok k (Ok w) v e = let same : w ≡ v = ok_is w v e in ap (λ (x : Option View). Ok x) same
@@ -73,7 +73,7 @@ pub entry_length : (e : Entry) → length (entry e) ≡ 2 + length e.path + 4 + 
 entry_length e = ap length (sym (listed e)) ∙ omega (arith, length-append e.path (u4 (length e.body) ++ e.body))
 
 -- from entry to entry, with the paths before and the sites that may still come: what the entry holds, and what it shows
-record MeansEntry (s : Begun) (e : Entry) (x : Option View) (next : Begun) : Type 0 where
+record MeansEntry (s : EntriesBefore) (e : Entry) (x : Option View) (next : EntriesBefore) : Type 0 where
   read : Option View
   is : IsEntryOf e read
   shows : x ≡ shown e.path read
@@ -141,10 +141,10 @@ module _ (bytes : List ℕ) (fits : IsBytes bytes) where
       let own = IsBytes-part bytes (at + 4) (length body) body fits (part_is bytes (at + 4) body _ (Stands-front body rest n.1)) in
       rw (n.0, text.0, held_only k (is_class_path path) body r own holds) refl
 
-  abbrev place : Begun → ℕ
+  abbrev place : EntriesBefore → ℕ
   place s = s.at
 
-  entry_found : (k : ℕ) (s : Begun) (x : Option View × Begun) → s.at ≤ length bytes → entry_at bytes k s ≡ Ok x → FoundRow bytes place entry MeansEntry (entry_at bytes) s x.0 x.1
+  entry_found : (k : ℕ) (s : EntriesBefore) (x : Option View × EntriesBefore) → s.at ≤ length bytes → entry_at bytes k s ≡ Ok x → FoundRow bytes place entry MeansEntry (entry_at bytes) s x.0 x.1
   unfolding entry_at
   entry_found k s x le e =
       let a = bind_ok (path_at bytes k s.at) _ x e in
@@ -155,7 +155,7 @@ module _ (bytes : List ℕ) (fits : IsBytes bytes) where
       let body = body_found k a.0.0 a.0.1 c.0 c.1 in
       let row : Entry = record { path = a.0.0; body = body.body } in
       let whole = listed_at row (Stands-then path.stands body.stands) in
-      subst (λ (y : Option View × Begun). FoundRow bytes place entry MeansEntry (entry_at bytes) s y.0 y.1) (ok_is _ x d.2) (record {
+      subst (λ (y : Option View × EntriesBefore). FoundRow bytes place entry MeansEntry (entry_at bytes) s y.0 y.1) (ok_is _ x d.2) (record {
         row = row;
         stands = whole;
         meant = record {
@@ -170,7 +170,7 @@ module _ (bytes : List ℕ) (fits : IsBytes bytes) where
         };
       })
 
-  entry_only : (k : ℕ) (s : Begun) (e : Entry) (x : Option View) (next : Begun) (rest : List ℕ) (after : ℕ) → MeansEntry s e x next → Stands bytes s.at (entry e ++ rest) after
+  entry_only : (k : ℕ) (s : EntriesBefore) (e : Entry) (x : Option View) (next : EntriesBefore) (rest : List ℕ) (after : ℕ) → MeansEntry s e x next → Stands bytes s.at (entry e ++ rest) after
       → (entry_at bytes k s ≡ Ok (x, next)) × (next.at ≡ s.at + length (entry e))
   unfolding entry_at
   entry_only k s e x next rest after is t =
@@ -183,18 +183,18 @@ module _ (bytes : List ℕ) (fits : IsBytes bytes) where
 
   -- ---- along the entries
 
-  abbrev Follow : Begun → List Entry → List (Option View) → Begun → Type 0
+  abbrev Follow : EntriesBefore → List Entry → List (Option View) → EntriesBefore → Type 0
   Follow s es xs end = Linked bytes place entry MeansEntry (entry_at bytes) s es xs end
 
   -- what the entries hold, from what they show
-  record Followed (s : Begun) (es : List Entry) (xs : List (Option View)) : Type 0 where
+  record Followed (s : EntriesBefore) (es : List Entry) (xs : List (Option View)) : Type 0 where
     reads : List (Option View)
     each : AllZip IsEntryOf es reads
     shows : flat_map some_of xs ≡ views_of es reads
     fresh : AreFresh is_same s.paths (map (λ e. e.path) es)
     few : sum_by sites_in reads ≤ s.room
 
-  follow_found : (s : Begun) (es : List Entry) (xs : List (Option View)) (end : Begun) → Follow s es xs end → Followed s es xs
+  follow_found : (s : EntriesBefore) (es : List Entry) (xs : List (Option View)) (end : EntriesBefore) → Follow s es xs end → Followed s es xs
   follow_found s [] [] end l = record { reads = []; each = tt; shows = refl; fresh = tt; few = omega arith }
   follow_found s [] (x ∷ xs) end l = absurd l
   follow_found s (e ∷ es) [] end l = absurd l
@@ -211,18 +211,18 @@ module _ (bytes : List ℕ) (fits : IsBytes bytes) where
         few = omega (arith, sum_by-cons sites_in is.read below.reads, few, room, left);
       }
 
-  record Leads (s : Begun) (es : List Entry) (rs : List (Option View)) : Type 0 where
+  record Leads (s : EntriesBefore) (es : List Entry) (rs : List (Option View)) : Type 0 where
     shows : List (Option View)
     views : flat_map some_of shows ≡ views_of es rs
-    end : Begun
+    end : EntriesBefore
     along : Follow s es shows end
 
-  follow_only : (s : Begun) (es : List Entry) (rs : List (Option View)) → AllZip IsEntryOf es rs → AreFresh is_same s.paths (map (λ e. e.path) es) → sum_by sites_in rs ≤ s.room → Leads s es rs
+  follow_only : (s : EntriesBefore) (es : List Entry) (rs : List (Option View)) → AllZip IsEntryOf es rs → AreFresh is_same s.paths (map (λ e. e.path) es) → sum_by sites_in rs ≤ s.room → Leads s es rs
   follow_only s [] [] z f few = record { shows = []; views = refl; end = s; along = refl }
   follow_only s [] (r ∷ rs) z f few = absurd z
   follow_only s (e ∷ es) [] z f few = absurd z
   follow_only s (e ∷ es) (r ∷ rs) z f few =
-      let next : Begun = record { at = s.at + length (entry e); paths = s.paths ++ e.path ∷ []; room = s.room - sites_in r } in
+      let next : EntriesBefore = record { at = s.at + length (entry e); paths = s.paths ++ e.path ∷ []; room = s.room - sites_in r } in
       let here : sites_in r ≤ s.room = omega (arith, sum_by-cons sites_in r rs, few) in
       let left : sum_by sites_in rs ≤ s.room - sites_in r = omega (arith, sum_by-cons sites_in r rs, few) in
       let below = follow_only next es rs z.1 f.1 left in
@@ -236,13 +236,13 @@ module _ (bytes : List ℕ) (fits : IsBytes bytes) where
   entries_found : (views : List View) → entries_of bytes ≡ Ok views → Content bytes views
   unfolding entries_of
   entries_found views e =
-      let begun : Begun = record { at = 10; paths = []; room = 4000000 } in
+      let first : EntriesBefore = record { at = 10; paths = []; room = 4000000 } in
       let a = bind_ok (u4_at (broken 0 0 Cut) bytes 0) _ views e in
       let b = bind_ok (unless_broken (eqb a.0 0x46434742) (broken 0 0 Magic)) _ views a.2 in
       let c = bind_ok (u2_at (broken 4 0 Cut) bytes 4) _ views b.2 in
       let d = bind_ok (unless_broken (eqb c.0 1) (broken 4 0 Version)) _ views c.2 in
       let f = bind_ok (u4_at (broken 6 0 Cut) bytes 6) _ views d.2 in
-      let g = bind_ok (rows (entry_at bytes) f.0 0 begun) _ views f.2 in
+      let g = bind_ok (rows (entry_at bytes) f.0 0 first) _ views f.2 in
       let h = bind_ok (unless_broken (eqb (length bytes) g.0.1.at) (broken g.0.1.at f.0 Trailing)) _ views g.2 in
       let magic : a.0 ≡ 0x46434742 = eqb-true _ _ (kept_ok _ _ b.0 b.1) in
       let version : c.0 ≡ 1 = eqb-true _ _ (kept_ok _ _ d.0 d.1) in
@@ -250,8 +250,8 @@ module _ (bytes : List ℕ) (fits : IsBytes bytes) where
       let s0 = subst (λ (n : ℕ). Stands bytes 0 (u4 n) 4) magic (u4_found (broken 0 0 Cut) bytes 0 a.0 fits a.1).0 in
       let s4 = subst (λ (n : ℕ). Stands bytes 4 (u2 n) 6) version (u2_found (broken 4 0 Cut) bytes 4 c.0 fits c.1).0 in
       let n = u4_found (broken 6 0 Cut) bytes 6 f.0 fits f.1 in
-      let r = rows_found bytes place entry MeansEntry (entry_at bytes) entry_found f.0 0 begun g.0 n.0.within g.1 in
-      let along = follow_found begun r.table g.0.0 g.0.1 r.meant in
+      let r = rows_found bytes place entry MeansEntry (entry_at bytes) entry_found f.0 0 first g.0 n.0.within g.1 in
+      let along = follow_found first r.table g.0.0 g.0.1 r.meant in
       let s6 = subst (λ (k : ℕ). Stands bytes 6 (u4 k) 10) (sym r.many) n.0 in
       let whole = subst (λ (k : ℕ). Stands bytes 0 (u4 0x46434742 ++ (u2 1 ++ (u4 (length r.table) ++ flat_map entry r.table))) k) (sym ended) (Stands-then s0 (Stands-then s4 (Stands-then s6 r.stands))) in
       subst (λ (y : List View). Content bytes y) (ok_is (flat_map some_of g.0.0) views h.2) (record {
@@ -268,15 +268,15 @@ module _ (bytes : List ℕ) (fits : IsBytes bytes) where
   entries_only : (views : List View) → Content bytes views → entries_of bytes ≡ Ok views
   unfolding entries_of
   entries_only views c =
-      let begun : Begun = record { at = 10; paths = []; room = 4000000 } in
+      let first : EntriesBefore = record { at = 10; paths = []; room = 4000000 } in
       let es : List Entry = c.entries in
       let paths : List (List ℕ) = map (λ e. e.path) es in
       let s = is_whole bytes (bundle es) c.spelled in
       let a = u4_only (broken 0 0 Cut) bytes 0 0x46434742 (u2 1 ++ (u4 (length es) ++ (flat_map entry es ++ []))) (length bytes) (omega arith) s in
       let b = u2_only (broken 4 0 Cut) bytes 4 1 (u4 (length es) ++ (flat_map entry es ++ [])) (length bytes) (omega arith) a.1 in
       let n = u4_only (broken 6 0 Cut) bytes 6 (length es) (flat_map entry es ++ []) (length bytes) c.many b.1 in
-      let along = follow_only begun es c.reads c.each (distinct_only is_same paths (IsDistinct-from_AllPairs same_text paths c.distinct)) c.few_sites in
-      let r = rows_only bytes place entry MeansEntry (entry_at bytes) entry_only 0 begun es along.shows along.end [] (length bytes) along.along n.1 in
+      let along = follow_only first es c.reads c.each (distinct_only is_same paths (IsDistinct-from_AllPairs same_text paths c.distinct)) c.few_sites in
+      let r = rows_only bytes place entry MeansEntry (entry_at bytes) entry_only 0 first es along.shows along.end [] (length bytes) along.along n.1 in
       let end : eqb (length bytes) along.end.at ≡ true = (let ends = r.1.ends in grind (arith, nat_tests)) in
       rw (a.0, b.0, n.0, r.0, end) (ap (λ (vs : List View). Ok vs) (along.views ∙ sym c.views_are))
 

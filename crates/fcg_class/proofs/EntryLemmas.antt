@@ -20,8 +20,8 @@ use Rattle.fcg_views.specs.Valid.{left_of, is_same}
 use Rattle.fcg_class.specs.declared.bundle.Ahead.{Ahead}
 use Rattle.fcg_class.specs.declared.bundle.BundleFault.{BundleFault}
 use Rattle.fcg_class.specs.declared.bundle.BundleRule.TheVariants.{Path, ManySites}
-use Rattle.fcg_class.specs.Bundle.{broken, shown, sites_in, some_of, Begun, path_at, body_at, entry_at}
-use Rattle.fcg_class.specs.Entries.{path_cmp, ArePaths, begun, start, GivesEntry}
+use Rattle.fcg_class.specs.Bundle.{broken, shown, sites_in, some_of, EntriesBefore, path_at, body_at, entry_at}
+use Rattle.fcg_class.specs.Internal.Entries.{path_cmp, ArePaths, entries_before, before_first, GivesEntry}
 
 negated : (a b c : Bool) → a ≡ b → c ≡ not a → not c ≡ b
 negated true b c e f = rw f e
@@ -45,7 +45,7 @@ ArePaths-push old new before path are updates p =
     ∙ rw (← texts_ties path.now p.now, are p) (either (is_same path.now p.now) (list_any (λ q. is_same q p.now) before))
     ∙ sym (list_any-append (λ q. is_same q p.now) before (path.now ∷ []))
 
-pub entry_at-twice : (bytes : List ℕ) (k : ℕ) (ahead : Ahead) (before : List (List ℕ)) (path : List ℕ) (after : ℕ) → path_at bytes k ahead.at ≡ Ok (path, after) → true ≡ list_any (λ p. is_same p path) before → entry_at bytes k (begun ahead before) ≡ Err (broken (ahead.at + 2) k Path)
+pub entry_at-twice : (bytes : List ℕ) (k : ℕ) (ahead : Ahead) (before : List (List ℕ)) (path : List ℕ) (after : ℕ) → path_at bytes k ahead.at ≡ Ok (path, after) → true ≡ list_any (λ p. is_same p path) before → entry_at bytes k (entries_before ahead before) ≡ Err (broken (ahead.at + 2) k Path)
 unfolding entry_at
 entry_at-twice bytes k ahead before path after p t = rw (p, ← t) refl
 
@@ -59,16 +59,16 @@ none_left false n e = refl
 
 -- the path is read, and no earlier one is the same
 module _ (bytes : List ℕ) (k : ℕ) (ahead : Ahead) (before : List (List ℕ)) (path : List ℕ) (after : ℕ) (is : path_at bytes k ahead.at ≡ Ok (path, after)) (fresh : false ≡ list_any (λ p. is_same p path) before) where
-  pub entry_at-broken : (e : ReadError BundleFault) → Fails e (body_at bytes k path after) → Fails e (entry_at bytes k (begun ahead before))
+  pub entry_at-broken : (e : ReadError BundleFault) → Fails e (body_at bytes k path after) → Fails e (entry_at bytes k (entries_before ahead before))
   unfolding entry_at
   entry_at-broken errors.NoMemory given = tt
   entry_at-broken (errors.Fault f) given = rw (is, ← fresh, given) refl
 
-  pub entry_at-many : (r : Option View) (end : ℕ) → body_at bytes k path after ≡ Ok (r, end) → left_of ahead.room (sites_in r) ≡ None → entry_at bytes k (begun ahead before) ≡ Err (broken (after + 4) k ManySites)
+  pub entry_at-many : (r : Option View) (end : ℕ) → body_at bytes k path after ≡ Ok (r, end) → left_of ahead.room (sites_in r) ≡ None → entry_at bytes k (entries_before ahead before) ≡ Err (broken (after + 4) k ManySites)
   unfolding entry_at
   entry_at-many r end given none = rw (is, ← fresh, given, none_left (leb (sites_in r) ahead.room) _ none) refl
 
-  pub entry_at-read : (r : Option View) (end room : ℕ) → body_at bytes k path after ≡ Ok (r, end) → left_of ahead.room (sites_in r) ≡ Some room → entry_at bytes k (begun ahead before) ≡ Ok (shown path r, begun (record { at = end; room = room }) (before ++ path ∷ []))
+  pub entry_at-read : (r : Option View) (end room : ℕ) → body_at bytes k path after ≡ Ok (r, end) → left_of ahead.room (sites_in r) ≡ Some room → entry_at bytes k (entries_before ahead before) ≡ Ok (shown path r, entries_before (record { at = end; room = room }) (before ++ path ∷ []))
   unfolding entry_at
   entry_at-read r end room given some =
       let l = left (leb (sites_in r) ahead.room) _ room some in
@@ -79,20 +79,20 @@ module _ (bytes : List ℕ) (k : ℕ) (ahead : Ahead) (before : List (List ℕ))
 pub ArePaths-none : (set : BTreeSet (Bor (List ℕ))) → tree.IsEmpty set → ArePaths set []
 ArePaths-none set none p = rw none refl
 
-pub entries_begin : (bytes : List ℕ) (count at : ℕ) → with_front [] (rows (entry_at bytes) (count - 0) 0 (start at)) ≡ rows (entry_at bytes) count 0 (start at)
+pub entries_begin : (bytes : List ℕ) (count at : ℕ) → with_front [] (rows (entry_at bytes) (count - 0) 0 (before_first at)) ≡ rows (entry_at bytes) count 0 (before_first at)
 entries_begin bytes count at =
     let n : count - 0 ≡ count = omega arith in
-    rw n (front_none (rows (entry_at bytes) count 0 (start at)))
+    rw n (front_none (rows (entry_at bytes) count 0 (before_first at)))
   where
     front_none : {X S E : Type 0} (r : Result (List X × S) E) → with_front [] r ≡ r
     front_none (Ok x) = refl
     front_none (Err f) = refl
 
-pub entries_go_on : (bytes : List ℕ) (count k : ℕ) (place : Ahead) (before : List (List ℕ)) (front : List (Option View)) (view : Option View) (after : Ahead) (set : BTreeSet (Bor (List ℕ))) (total : Result (List (Option View) × Begun) BundleFault) → k < count
-    → GivesEntry (Ok (view, after)) set before (entry_at bytes k (begun place before)) → with_front front (rows (entry_at bytes) (count - k) k (begun place before)) ≡ total
-    → (paths : List (List ℕ)) × ArePaths set paths × (with_front (front ++ view ∷ []) (rows (entry_at bytes) (count - (k + 1)) (k + 1) (begun after paths)) ≡ total)
+pub entries_go_on : (bytes : List ℕ) (count k : ℕ) (place : Ahead) (before : List (List ℕ)) (front : List (Option View)) (view : Option View) (after : Ahead) (set : BTreeSet (Bor (List ℕ))) (total : Result (List (Option View) × EntriesBefore) BundleFault) → k < count
+    → GivesEntry (Ok (view, after)) set before (entry_at bytes k (entries_before place before)) → with_front front (rows (entry_at bytes) (count - k) k (entries_before place before)) ≡ total
+    → (paths : List (List ℕ)) × ArePaths set paths × (with_front (front ++ view ∷ []) (rows (entry_at bytes) (count - (k + 1)) (k + 1) (entries_before after paths)) ≡ total)
 entries_go_on bytes count k place before front view after set total lt given so_far =
-    (before ++ given.0 ∷ [], given.1, rows_go_on (entry_at bytes) front count k (begun place before) view (begun after (before ++ given.0 ∷ [])) total lt given.2 so_far)
+    (before ++ given.0 ∷ [], given.1, rows_go_on (entry_at bytes) front count k (entries_before place before) view (entries_before after (before ++ given.0 ∷ [])) total lt given.2 so_far)
 
 -- the views, where that of an entry was added
 pub views_more : (front : List (Option View)) (r : Option View) (old new : List View) → old ≡ flat_map some_of front → new ≡ old ++ some_of r → new ≡ flat_map some_of (front ++ r ∷ [])

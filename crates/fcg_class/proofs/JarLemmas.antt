@@ -16,7 +16,7 @@ use Rattle.fcg_class.specs.declared.bundle.BundleFault.TheVariants.{Jar}
 use Rattle.fcg_class.specs.declared.bundle.BundleRule.{BundleRule}
 use Rattle.fcg_class.specs.declared.bundle.BundleRule.TheVariants.{Magic, Version, Cut, Path, Trailing, ManySites}
 use Rattle.fcg_class.specs.Path.{is_path_length, is_path, is_class_path}
-use Rattle.fcg_class.specs.Bundle.{broken, sites_in, Begun, in_entry, held, path_at, body_at, entry_at, entries_of}
+use Rattle.fcg_class.specs.Bundle.{broken, sites_in, EntriesBefore, in_entry, held, path_at, body_at, entry_at, entries_of}
 use Rattle.fcg_views.specs.Valid.{is_same}
 
 -- a fault that isn't that of a jar
@@ -83,7 +83,7 @@ body_no_jar bytes k path at =
     then (part_at (broken (at + 4) k Cut) bytes (at + 4) n) _ (part_no_jar bytes k (at + 4) n) (λ body.
     then (held k (is_class_path path) body) _ (held_no_jar k (is_class_path path) body) (λ view. ok_no_jar _)))
 
-entry_no_jar : (bytes : List ℕ) (k : ℕ) (s : Begun) → IsNoJar (entry_at bytes k s)
+entry_no_jar : (bytes : List ℕ) (k : ℕ) (s : EntriesBefore) → IsNoJar (entry_at bytes k s)
 unfolding entry_at
 entry_no_jar bytes k s =
     then (path_at bytes k s.at) _ (path_no_jar bytes k s.at) (λ path.
@@ -98,13 +98,13 @@ rows_no_jar read each (suc n) k s = then (read k s) _ (each k s) (λ first. then
 entries_no_jar : (bytes : List ℕ) → IsNoJar (entries_of bytes)
 unfolding entries_of
 entries_no_jar bytes =
-    let begun : Begun = record { at = 10; paths = []; room = 4000000 } in
+    let first : EntriesBefore = record { at = 10; paths = []; room = 4000000 } in
     then (u4_at (broken 0 0 Cut) bytes 0) _ (u4_no_jar bytes 0 0) (λ magic.
     rule (eqb magic 0x46434742) 0 0 Magic _ (λ u.
     then (u2_at (broken 4 0 Cut) bytes 4) _ (u2_no_jar bytes 0 4) (λ version.
     rule (eqb version 1) 4 0 Version _ (λ v.
     then (u4_at (broken 6 0 Cut) bytes 6) _ (u4_no_jar bytes 0 6) (λ count.
-    then (rows (entry_at bytes) count 0 begun) _ (rows_no_jar (entry_at bytes) (entry_no_jar bytes) count 0 begun) (λ read.
+    then (rows (entry_at bytes) count 0 first) _ (rows_no_jar (entry_at bytes) (entry_no_jar bytes) count 0 first) (λ read.
     rule (eqb (length bytes) read.1.at) read.1.at count Trailing _ (λ w. ok_no_jar _)))))))
 
 abbrev jar : ReadError BundleFault

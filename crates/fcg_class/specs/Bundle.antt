@@ -112,25 +112,25 @@ body_at bytes k path at = do
   Ok (read, at + 4 + n)
 
 -- where the next entry stands, the paths of those before it, and how many sites the views may still have
-pub record Begun : Type 0 where
+pub record EntriesBefore : Type 0 where
   pub at : ℕ
   pub paths : List (List ℕ)
   pub room : ℕ
 
 -- the view that an entry shows
-unfoldable pub entry_at : List ℕ → ℕ → Begun → Result (Option View × Begun) BundleFault
-entry_at bytes k begun = do
-  path ← path_at bytes k begun.at
-  fresh ← unless_broken (not (list_any (λ p. is_same p path.0) begun.paths)) (broken (begun.at + 2) k Path)
+unfoldable pub entry_at : List ℕ → ℕ → EntriesBefore → Result (Option View × EntriesBefore) BundleFault
+entry_at bytes k before = do
+  path ← path_at bytes k before.at
+  fresh ← unless_broken (not (list_any (λ p. is_same p path.0) before.paths)) (broken (before.at + 2) k Path)
   body ← body_at bytes k path.0 path.1
-  few ← unless_broken (nat_le (sites_in body.0) begun.room) (broken (path.1 + 4) k ManySites)
-  Ok (shown path.0 body.0, record { at = body.1; paths = begun.paths ++ path.0 ∷ []; room = begun.room - sites_in body.0 })
+  few ← unless_broken (nat_le (sites_in body.0) before.room) (broken (path.1 + 4) k ManySites)
+  Ok (shown path.0 body.0, record { at = body.1; paths = before.paths ++ path.0 ∷ []; room = before.room - sites_in body.0 })
 
 -- FCGB, version 1, the entries, and nothing after them
 unfoldable pub entries_of : List ℕ → Result (List View) BundleFault
 entries_of bytes = do
   magic ← u4_at bytes 0 0
-  begun ← unless_broken (magic == 0x46434742) (broken 0 0 Magic)
+  kept ← unless_broken (magic == 0x46434742) (broken 0 0 Magic)
   version ← u2_at bytes 0 4
   known ← unless_broken (version == 1) (broken 4 0 Version)
   count ← u4_at bytes 0 6

@@ -1,5 +1,4 @@
 pub mod Path
 pub mod Bundle
-pub mod Entries
 pub mod Pack
 pub mod Internal

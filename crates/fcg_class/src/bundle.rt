@@ -1,10 +1,10 @@
 //! Bundles of class files.
-ghost use Rattle.std.specs.Prelude.{◌≡◌, ◌≤◌, ◌↔◌, ◌++◌, ℕ, List, [], length, OnOk, IfOk, IsTrue, IsErrOf};
+ghost use Rattle.std.specs.Prelude.{◌≡◌, ◌≤◌, ◌<◌, ◌^◌, ◌↔◌, ◌++◌, ℕ, List, [], length, OnOk, IfOk, IsTrue, IsErrOf};
 ghost use Rattle.std.specs.List.{All};
 ghost use Rattle.fcg_grammar.specs.Reading.{seen, Gives};
 ghost use Rattle.fcg_grammar.specs.Rows.{rows};
-ghost use Rattle.fcg_views.specs.Valid.{IsValid, left_of};
-ghost use Rattle.fcg_class.specs.Entries.{told, begun, start, ArePaths, GivesEntry, GivesEntries};
+ghost use Rattle.fcg_views.specs.Valid.{IsValid, left_of, name_count};
+ghost use Rattle.fcg_class.specs.Internal.Entries.{error_in_entry, entries_before, before_first, ArePaths, GivesEntry, GivesEntries};
 ghost use Rattle.fcg_class.specs.Bundle.{Content, broken, some_of, shown, sites_in, held, path_at, body_at, entry_at, entries_of, bundle_of, is_jar};
 ghost use Rattle.fcg_class.specs.Path.{is_class_path};
 
@@ -81,9 +81,9 @@ fn fault_at(at: usize, entry: u32, rule: BundleRule) -> BundleFault
     }
 }
 
-// What the bundle is told of an error of an entry's class file.
-fn tell(entry: u32, error: ReadError<ClassFault>) -> ReadError<BundleFault>
-    ensures { result ≡ told entry error }
+// The error of a bundle where reading an entry's class file ended in an error.
+fn in_entry(entry: u32, error: ReadError<ClassFault>) -> ReadError<BundleFault>
+    ensures { result ≡ error_in_entry entry error }
 {
     match error {
         ReadError::NoMemory => ReadError::NoMemory,
@@ -123,7 +123,7 @@ fn read_held(
     }
     match read_class(alloc, body) {
         Ok(view) => Ok(view),
-        Err(error) => Err(tell(entry, error)),
+        Err(error) => Err(in_entry(entry, error)),
     }
 }
 
@@ -182,7 +182,7 @@ fn read_entry<'a>(
     ahead: Ahead,
 ) -> Result<(Option<View>, Ahead), ReadError<BundleFault>>
     requires { ahead.at ≤ length bytes.now }
-    ensures value { (before : List (List ℕ)) → ArePaths paths.old before → GivesEntry result paths.new before (entry_at bytes.now entry (begun ahead before)) }
+    ensures value { (before : List (List ℕ)) → ArePaths paths.old before → GivesEntry result paths.new before (entry_at bytes.now entry (entries_before ahead before)) }
     ensures inside { IfOk result (λ x. x.1.at ≤ length bytes.now) }
 {
     let (path, after) = read_path(bytes, entry, ahead.at)?;
@@ -214,7 +214,7 @@ fn read_entries(
     at: usize,
 ) -> Result<(Views, usize), ReadError<BundleFault>>
     requires { at ≤ length bytes.now }
-    ensures value { GivesEntries result (rows (entry_at bytes.now) count 0 (start at)) }
+    ensures value { GivesEntries result (rows (entry_at bytes.now) count 0 (before_first at)) }
     ensures inside { IfOk result (λ x. x.1 ≤ length bytes.now) }
 {
     let mut views = Vec::new(alloc);
@@ -286,6 +286,8 @@ pub fn read_bundle(alloc: Global, bytes: &[u8]) -> Result<Views, ReadError<Bundl
     ensures jar { IsErrOf result (ReadError.Fault BundleFault.Jar) ↔ IsTrue (is_jar bytes.now) }
     // Each view is one that a class file could have.
     ensures valid { IfOk result (All IsValid) }
+    // The views of at most 64 MB fit: their names can be numbered by four bytes.
+    ensures fits { length bytes.now ≤ 67108864 → IfOk result (λ views. name_count views < 2 ^ 32) }
 {
     read_whole(alloc, bytes)
 }

@@ -1,5 +1,5 @@
 use fcg_grammar::ReadError;
-use fcg_pool::{Pool, PoolFault, PoolRule};
+use fcg_pool::{Pool, PoolFault, PoolRule, RefSpan};
 use std::alloc::{AllocError, Global};
 use std::test::Fail;
 
@@ -24,7 +24,7 @@ const BASE: [u8; 29] = [
 ];
 
 // A constant that stands there, the place of one of its indexes, an index that it may be, and one of another kind.
-const INDEXES: [(&[u8], usize, u8, u8); 27] = [
+const INDEXES: &[(&[u8], usize, u8, u8)] = &[
     (b"\x07\x00\x01", 2, 1, 2),
     (b"\x08\x00\x01", 2, 1, 2),
     (b"\x10\x00\x01", 2, 1, 2),
@@ -56,11 +56,15 @@ const INDEXES: [(&[u8], usize, u8, u8); 27] = [
 
 // The base with one constant more.
 fn with_constant(alloc: Global, constant: &[u8]) -> Result<Vec<u8>, AllocError> {
-    let mut bytes = BASE.to_vec(alloc)?;
-    bytes.extend_from_slice(constant)?;
-    Ok(bytes)
+    [BASE.as_slice(), constant].concat(alloc)
 }
 
+fn pool_of(alloc: Global, bytes: &[u8]) -> Result<Pool<'_>, Fail> {
+    let (pool, _) = Pool::read(alloc, bytes, 0).ok().ok_or("it is a pool")?;
+    Ok(pool)
+}
+
+// The fault of bytes that are no pool.
 fn fault_in(alloc: Global, bytes: &[u8]) -> Option<PoolFault> {
     match Pool::read(alloc, bytes, 0) {
         Err(ReadError::Fault(fault)) => Some(fault),
@@ -68,156 +72,187 @@ fn fault_in(alloc: Global, bytes: &[u8]) -> Option<PoolFault> {
     }
 }
 
-fn fault(offset: u32, index: u16, rule: PoolRule) -> Option<PoolFault> {
-    Some(PoolFault {
+fn is_refused(alloc: Global, bytes: &[u8], offset: u32, index: u16, rule: PoolRule) -> bool {
+    let want = PoolFault {
         offset,
         index,
         rule,
-    })
+    };
+    fault_in(alloc, bytes) == Some(want)
+}
+
+fn is_span(span: &RefSpan<'_>, tag: u8, owner: &[u8], name: &[u8], desc: &[u8]) -> bool {
+    span.tag == tag && span.owner == owner && span.name == name && span.desc == desc
+}
+
+fn has_field(pool: &Pool<'_>) -> bool {
+    match pool.reference(10) {
+        Ok(named) => is_span(&named, 9, b"A", b"f", b"I"),
+        Err(_) => false,
+    }
 }
 
 #[test]
 fn two_indexes(rt: HostRuntime) -> Result<(), Fail> {
     let (pool, after) = Pool::read(rt.alloc(), &WIDE, 0).ok().ok_or("it is a pool")?;
-    assert_eq!(rt; after, 45);
-    assert_eq!(rt; pool.len(), 10);
-    assert_eq!(rt; pool.bytes().len(), 45);
-    let named = pool.reference(10).ok().ok_or("it is a Fieldref")?;
-    assert_eq!(rt; named.tag, 9);
-    assert_eq!(rt; named.owner, b"A".as_slice());
-    assert_eq!(rt; named.name, b"f".as_slice());
-    assert_eq!(rt; named.desc, b"I".as_slice());
-    assert!(rt; pool.class_index(6) == Ok(5));
-    assert!(rt; pool.class_name(6) == Ok(b"A".as_slice()));
+    assert!(rt; after == 45 && pool.len() == 10 && pool.bytes().len() == 45);
+    assert!(rt; has_field(&pool));
+    assert!(rt; pool.class_index(6) == Ok(5) && pool.class_name(6) == Ok(b"A".as_slice()));
     assert!(rt; pool.utf8(1) == Err(PoolRule::WrongKind));
-    assert!(rt; pool.utf8(2) == Err(PoolRule::BadIndex));
-    assert!(rt; pool.utf8(11) == Err(PoolRule::BadIndex));
+    assert!(rt;
+        pool.utf8(2) == Err(PoolRule::BadIndex) && pool.utf8(11) == Err(PoolRule::BadIndex)
+    );
     Ok(())
+}
+
+// Whether the Class may not name this index.
+fn names_nothing(alloc: Global, index: u8) -> Result<bool, Fail> {
+    let mut bytes = WIDE.to_vec(alloc)?;
+    if let Some(low) = bytes.get_mut(26) {
+        *low = index;
+    }
+    Ok(is_refused(alloc, &bytes, 24, 6, PoolRule::BadIndex))
 }
 
 #[test]
 fn second_index(rt: HostRuntime) -> Result<(), Fail> {
     // the Class names the second index of the Long or the Double
-    for index in [2, 4] {
-        let mut bytes = WIDE.to_vec(rt.alloc())?;
-        if let Some(low) = bytes.get_mut(26) {
-            *low = index;
-        }
-        assert_eq!(rt;
-            fault_in(rt.alloc(), &bytes),
-            fault(24, 6, PoolRule::BadIndex)
-        );
-    }
+    assert!(rt; names_nothing(rt.alloc(), 2)? && names_nothing(rt.alloc(), 4)?);
     // a Long with one index
     let last = b"\x00\x02\x05\x00\x00\x00\x00\x00\x00\x00\x00";
-    assert_eq!(rt; fault_in(rt.alloc(), last), fault(2, 1, PoolRule::BadIndex));
+    assert!(rt; is_refused(rt.alloc(), last, 2, 1, PoolRule::BadIndex));
     Ok(())
 }
 
-#[test]
-fn cut_at_each_length(rt: HostRuntime) -> Result<(), Fail> {
-    for (n, at) in CUTS.iter().enumerate() {
-        match fault_in(rt.alloc(), &WIDE[..n]) {
-            Some(cut) => {
-                assert!(rt; cut.rule == PoolRule::Cut, "at {n}");
-                assert_eq!(rt; cut.offset, *at, "at {n}");
-            }
-            None => panic!(rt; "the first {n} bytes were read"),
-        }
+// Where bytes are cut, if that is their fault.
+fn cut_at(alloc: Global, bytes: &[u8]) -> Option<u32> {
+    let fault = fault_in(alloc, bytes)?;
+    if fault.rule == PoolRule::Cut {
+        Some(fault.offset)
+    } else {
+        None
     }
-    Ok(())
+}
+
+#[test]
+fn cut_at_each_length(rt: HostRuntime) {
+    for (n, at) in CUTS.iter().enumerate() {
+        assert!(rt; cut_at(rt.alloc(), &WIDE[..n]) == Some(*at), "at {n}");
+    }
+}
+
+// The base with a constant more, of which one index is changed.
+fn with_index(alloc: Global, constant: &[u8], place: usize, index: u8) -> Result<Vec<u8>, Fail> {
+    let mut changed = constant.to_vec(alloc)?;
+    if let Some(low) = changed.get_mut(place) {
+        *low = index;
+    }
+    Ok(with_constant(alloc, &changed)?)
+}
+
+fn may_name(alloc: Global, constant: &[u8], place: usize, index: u8) -> Result<bool, Fail> {
+    let bytes = with_index(alloc, constant, place, index)?;
+    Ok(Pool::read(alloc, &bytes, 0).is_ok())
+}
+
+fn may_not_name(
+    alloc: Global,
+    constant: &[u8],
+    place: usize,
+    index: u8,
+    rule: PoolRule,
+) -> Result<bool, Fail> {
+    let bytes = with_index(alloc, constant, place, index)?;
+    Ok(is_refused(alloc, &bytes, 29, 7, rule))
 }
 
 #[test]
 fn what_indexes_name(rt: HostRuntime) -> Result<(), Fail> {
-    for (constant, place, right, wrong) in INDEXES.iter() {
-        let found = [
-            (*right, None),
-            (*wrong, fault(29, 7, PoolRule::WrongKind)),
-            (0, fault(29, 7, PoolRule::BadIndex)),
-            (8, fault(29, 7, PoolRule::BadIndex)),
-        ];
-        for (index, fault) in found {
-            let mut changed = constant.to_vec(rt.alloc())?;
-            if let Some(low) = changed.get_mut(*place) {
-                *low = index;
-            }
-            let bytes = with_constant(rt.alloc(), &changed)?;
-            assert_eq!(rt;
-                fault_in(rt.alloc(), &bytes),
-                fault,
-                "{index} in {constant:?}"
-            );
-            assert_eq!(rt; Pool::read(rt.alloc(), &bytes, 0).is_ok(), fault.is_none());
-        }
+    let alloc = rt.alloc();
+    for (constant, place, right, wrong) in INDEXES {
+        assert!(rt; may_name(alloc, constant, *place, *right)?, "{constant:?}");
+        assert!(rt;
+            may_not_name(alloc, constant, *place, *wrong, PoolRule::WrongKind)?
+                && may_not_name(alloc, constant, *place, 0, PoolRule::BadIndex)?
+                && may_not_name(alloc, constant, *place, 8, PoolRule::BadIndex)?,
+            "{constant:?}"
+        );
     }
     Ok(())
 }
+
+// Constants that no pool may have: method handles of no kind, whose index is 0; tags that no constant has; and a text
+// whose second byte begins no group.
+const BAD_CONSTANTS: &[(&[u8], u32, PoolRule)] = &[
+    (&[15, 0, 0, 0], 29, PoolRule::WrongKind),
+    (&[15, 10, 0, 0], 29, PoolRule::WrongKind),
+    (&[0, 0, 1], 29, PoolRule::BadTag),
+    (&[2, 0, 1], 29, PoolRule::BadTag),
+    (&[13, 0, 1], 29, PoolRule::BadTag),
+    (&[14, 0, 1], 29, PoolRule::BadTag),
+    (&[21, 0, 1], 29, PoolRule::BadTag),
+    (&[255, 0, 1], 29, PoolRule::BadTag),
+    (b"\x01\x00\x02\x61\x80", 33, PoolRule::BadUtf8),
+];
 
 #[test]
 fn bad_constants(rt: HostRuntime) -> Result<(), Fail> {
-    // method handles of no kind, whose index is 0
-    for kind in [0, 10] {
-        let bytes = with_constant(rt.alloc(), &[15, kind, 0, 0])?;
-        assert_eq!(rt;
-            fault_in(rt.alloc(), &bytes),
-            fault(29, 7, PoolRule::WrongKind)
+    for (constant, offset, rule) in BAD_CONSTANTS {
+        let bytes = with_constant(rt.alloc(), constant)?;
+        assert!(rt;
+            is_refused(rt.alloc(), &bytes, *offset, 7, *rule),
+            "{constant:?}"
         );
     }
-    for tag in [0, 2, 13, 14, 21, 255] {
-        let bytes = with_constant(rt.alloc(), &[tag, 0, 1])?;
-        assert_eq!(rt;
-            fault_in(rt.alloc(), &bytes),
-            fault(29, 7, PoolRule::BadTag)
-        );
+    Ok(())
+}
+
+fn has_handle(pool: &Pool<'_>) -> bool {
+    match pool.handle(7) {
+        Ok((kind, named)) => kind == 6 && is_span(&named, 10, b"a", b"a", b"a"),
+        Err(_) => false,
     }
-    // a text whose second byte begins no group
-    let bytes = with_constant(rt.alloc(), b"\x01\x00\x02\x61\x80")?;
-    assert_eq!(rt;
-        fault_in(rt.alloc(), &bytes),
-        fault(33, 7, PoolRule::BadUtf8)
-    );
+}
+
+#[test]
+fn handles(rt: HostRuntime) -> Result<(), Fail> {
+    let bytes = with_constant(rt.alloc(), b"\x0f\x06\x00\x05")?;
+    let pool = pool_of(rt.alloc(), &bytes)?;
+    assert!(rt; has_handle(&pool));
     Ok(())
 }
 
 #[test]
-fn handles_and_dynamic(rt: HostRuntime) -> Result<(), Fail> {
-    let bytes = with_constant(rt.alloc(), b"\x0f\x06\x00\x05")?;
-    let (pool, _) = Pool::read(rt.alloc(), &bytes, 0)
-        .ok()
-        .ok_or("it is a pool")?;
-    let (kind, named) = pool.handle(7).ok().ok_or("it is a MethodHandle")?;
-    assert_eq!(rt; kind, 6);
-    assert_eq!(rt; named.tag, 10);
-    assert_eq!(rt; named.owner, b"a".as_slice());
+fn dynamic(rt: HostRuntime) -> Result<(), Fail> {
     let bytes = with_constant(rt.alloc(), b"\x12\x00\x09\x00\x03")?;
-    let (pool, _) = Pool::read(rt.alloc(), &bytes, 0)
-        .ok()
-        .ok_or("it is a pool")?;
-    assert!(rt; pool.dynamic(7) == Ok(9));
-    assert!(rt; pool.dynamic(3) == Err(PoolRule::WrongKind));
+    let pool = pool_of(rt.alloc(), &bytes)?;
+    assert!(rt; pool.dynamic(7) == Ok(9) && pool.dynamic(3) == Err(PoolRule::WrongKind));
     let bytes = with_constant(rt.alloc(), b"\x11\x00\x09\x00\x03")?;
-    let (pool, _) = Pool::read(rt.alloc(), &bytes, 0)
-        .ok()
-        .ok_or("it is a pool")?;
+    let pool = pool_of(rt.alloc(), &bytes)?;
     assert!(rt; pool.dynamic(7) == Err(PoolRule::WrongKind));
     Ok(())
+}
+
+fn is_absent(pool: &Pool<'_>, index: u16) -> bool {
+    pool.handle_pair(index) == Err(PoolRule::BadIndex)
+        && pool.handle_indexes(index) == Err(PoolRule::BadIndex)
+}
+
+fn has_indexes(pool: &Pool<'_>) -> bool {
+    pool.handle_pair(7) == Ok((6, 5)) && pool.handle_indexes(7) == Ok(Some((6, 5)))
+}
+
+fn is_other(pool: &Pool<'_>) -> bool {
+    pool.handle_pair(5) == Err(PoolRule::WrongKind) && pool.handle_indexes(5) == Ok(None)
 }
 
 #[test]
 fn indexes_of_handles(rt: HostRuntime) -> Result<(), Fail> {
     let bytes = with_constant(rt.alloc(), b"\x0f\x06\x00\x05")?;
-    let (pool, _) = Pool::read(rt.alloc(), &bytes, 0)
-        .ok()
-        .ok_or("it is a pool")?;
-    assert!(rt; pool.handle_pair(7) == Ok((6, 5)));
-    assert!(rt; pool.handle_indexes(7) == Ok(Some((6, 5))));
-    // a Methodref
-    assert!(rt; pool.handle_pair(5) == Err(PoolRule::WrongKind));
-    assert!(rt; pool.handle_indexes(5) == Ok(None));
-    for index in [0, 8] {
-        assert!(rt; pool.handle_pair(index) == Err(PoolRule::BadIndex));
-        assert!(rt; pool.handle_indexes(index) == Err(PoolRule::BadIndex));
-    }
+    let pool = pool_of(rt.alloc(), &bytes)?;
+    // the handle, a Methodref, and indexes that name nothing
+    assert!(rt;
+        has_indexes(&pool) && is_other(&pool) && is_absent(&pool, 0) && is_absent(&pool, 8)
+    );
     Ok(())
 }

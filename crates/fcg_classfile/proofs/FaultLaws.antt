@@ -15,7 +15,7 @@ use Rattle.fcg_views.specs.Valid.{is_alike}
 use Rattle.fcg_classfile.specs.Breaks.Number.{u2_at}
 use Rattle.fcg_classfile.specs.Breaks.Pool as pools
 use Rattle.fcg_classfile.specs.Breaks.Pool.{constant_read, Placed, Next, index_read, slot_at, Entries, slot_kept, pool_at}
-use Rattle.fcg_classfile.specs.Breaks.Members.{Unfinished, Begun, method_at, methods_at}
+use Rattle.fcg_classfile.specs.Breaks.Members.{Unfinished, MethodsBefore, method_at, methods_at}
 use Rattle.fcg_classfile.specs.Tables.{unplaced, Holds}
 use Rattle.fcg_classfile.specs.Faults as faults
 use Rattle.fcg_classfile.specs.Faults.{Fills, BrokenPool, own, BrokenMethods}
@@ -82,17 +82,17 @@ module _ (bytes : List ℕ) (fits : IsBytes bytes) where
 -- ---- the methods
 module _ (pool : Entries) (fits : IsBytes pool.bytes) (constants : List Constant) (holds : Holds pool constants) where
   -- the methods that were read are those before the next
-  kept_earlier : (s : Begun) (cs : List MemberInfo) (ms : List Unfinished) (end : Begun) → Follow pool fits constants holds s cs ms end → s.earlier ++ own ms ≡ end.earlier
-  kept_earlier s [] [] end l = append-nil s.earlier ∙ ap (λ (b : Begun). b.earlier) l
+  kept_earlier : (s : MethodsBefore) (cs : List MemberInfo) (ms : List Unfinished) (end : MethodsBefore) → Follow pool fits constants holds s cs ms end → s.earlier ++ own ms ≡ end.earlier
+  kept_earlier s [] [] end l = append-nil s.earlier ∙ ap (λ (b : MethodsBefore). b.earlier) l
   kept_earlier s [] (m ∷ ms) end l = absurd l
   kept_earlier s (c ∷ cs) [] end l = absurd l
   kept_earlier s (c ∷ cs) (m ∷ ms) end l =
       sym (append_assoc s.earlier (m.0 ∷ []) (own ms)) ∙ ap (λ (e : List Method). e ++ own ms) (sym l.1.earlier) ∙ kept_earlier l.0 cs ms end l.2
 
-  abbrev begun_at : ℕ → Begun
+  abbrev begun_at : ℕ → MethodsBefore
   begun_at at = record { at = at; earlier = [] }
 
-  abbrev place : Begun → ℕ
+  abbrev place : MethodsBefore → ℕ
   place s = s.at
 
   in_method : (at count : ℕ) (f : ClassFault) → Stands pool.bytes at (u2 count) (at + 2) → BrokenRow (method_at pool) count 0 (begun_at (at + 2)) f → BrokenMethods pool constants at f
@@ -100,12 +100,12 @@ module _ (pool : Entries) (fits : IsBytes pool.bytes) (constants : List Constant
       let found = states.rows_kept pool.bytes place member_info (MeansMethod constants) (method_at pool) (HasFew pool fits constants holds) (method_found pool fits constants holds) (length r.front) 0 (begun_at (at + 2)) (r.front, r.at) s.within (omega arith) r.read_is in
       let along = follow_found pool fits constants holds (begun_at (at + 2)) found.table r.front r.at found.meant in
       let earlier : own r.front ≡ r.at.earlier = kept_earlier (begun_at (at + 2)) found.table r.front r.at found.meant in
-      let here : Begun = record { at = r.at.at; earlier = own r.front } in
+      let here : MethodsBefore = record { at = r.at.at; earlier = own r.front } in
       let same : r.at ≡ here = ap (λ (ms : List Method). record { at = r.at.at; earlier = ms }) (sym earlier) in
       let many : 0 + length r.front ≡ length found.table = omega (arith, found.many) in
       let lt = r.before in
       faults.BrokenMethods.InMethod count found.table r.front r.at.at (fills pool.bytes at _ r.at.at (Stands-then s found.stands)) (omega (arith, many, lt)) along.0 (distinct_found is_alike (own r.front) along.1)
-      (subst (λ (n : ℕ). method_at pool n here ≡ Err f) many (subst (λ (b : Begun). method_at pool (0 + length r.front) b ≡ Err f) same r.broken))
+      (subst (λ (n : ℕ). method_at pool n here ≡ Err f) many (subst (λ (b : MethodsBefore). method_at pool (0 + length r.front) b ≡ Err f) same r.broken))
 
   pub methods_broken : (at : ℕ) (f : ClassFault) → methods_at pool at ≡ Err f → BrokenMethods pool constants at f
   unfolding methods_at

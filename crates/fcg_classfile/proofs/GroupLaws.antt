@@ -5,7 +5,8 @@ use Rattle.std.proofs.lemmas.Bool.{cases_lt}
 use Rattle.std.proofs.lemmas.Bool.Decides.{nat_tests}
 use Rattle.std.proofs.lemmas.List.{take-append-drop, drop_at, length-drop, length-append}
 use Rattle.std.proofs.lemmas.List.Concat.{flat_map-cons}
-use Rattle.fcg_classfile.specs.Breaks.Groups.{is_in, is_single, is_pair, is_triple, group_len, bad_group}
+use Rattle.fcg_classfile.specs.Breaks.Groups.{is_in, is_single, is_pair, is_triple, bad_group}
+use Rattle.fcg_classfile.specs.Internal.Group.{group_len}
 use Rattle.fcg_classfile.specs.Reads.{IsIn, IsGroup, AreGroups}
 use Rattle.fcg_classfile.proofs.GroupLemmas.{group_none, group_some, group_end}
 

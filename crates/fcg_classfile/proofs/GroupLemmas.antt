@@ -1,6 +1,7 @@
 -- Going over the groups of a text.
 use Rattle.std.proofs.Common.{◌≡◌, ℕ, zero, suc, ◌+◌, ◌≤◌, ◌<◌, true, false, cond, List, [], ◌∷◌, length, drop, Option, Some, None, refl, arith}
-use Rattle.fcg_classfile.specs.Breaks.Groups.{is_single, is_pair, is_triple, group_len, bad_group}
+use Rattle.fcg_classfile.specs.Breaks.Groups.{is_single, is_pair, is_triple, bad_group}
+use Rattle.fcg_classfile.specs.Internal.Group.{group_len}
 
 -- what a group of this many bytes at the front leads to, where bad_group gives a value
 abbrev Goes : ℕ → Option ℕ → ℕ → List ℕ → Type 0

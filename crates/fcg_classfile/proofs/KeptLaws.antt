@@ -9,7 +9,7 @@ use Rattle.fcg_grammar.specs.Rows.{each}
 use Rattle.fcg_grammar.proofs.LawLemmas.{bind_ok, kept_ok}
 use Rattle.fcg_classfile.specs.declared.fault.PoolRule.TheVariants.{BadIndex, WrongKind}
 use Rattle.fcg_classfile.specs.ClassFile.{is_one_of, Constant, Utf8, Plain, Named, Pair, Handle, tag_of, is_wide, unusable, slots, wants, handle_tags}
-use Rattle.fcg_classfile.specs.Constants.{joined}
+use Rattle.fcg_classfile.specs.Constants.{of_slot}
 use Rattle.fcg_classfile.specs.Reads.{HasTag}
 use Rattle.fcg_classfile.specs.Breaks.Pool.{Placed, Entries, constant_of, want_kept, wants_kept, is_kind, has_room, constant_kept, slot_kept}
 use Rattle.fcg_classfile.specs.Tables.{unplaced, Holds}
@@ -38,7 +38,7 @@ module _ (P : Constant → Type 0) where
   all_slots [] all = tt
   all_slots (c ∷ cs) all = (all.0, again (is_wide c) (slots cs) (all_slots cs all.1))
 
-  pub at_slot : (marks : List (Option Constant)) (i : ℕ) (c : Constant) → AllByRecursion (OfSome P) marks → joined (slice_get marks i) ≡ Some c → P c
+  pub at_slot : (marks : List (Option Constant)) (i : ℕ) (c : Constant) → AllByRecursion (OfSome P) marks → of_slot (slice_get marks i) ≡ Some c → P c
   at_slot [] i c all e = absurd cc
   at_slot (None ∷ marks) zero c all e = absurd cc
   at_slot (Some d ∷ marks) zero c all e = let same : d ≡ c = cc in subst P same all.0

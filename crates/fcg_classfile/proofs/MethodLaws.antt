@@ -24,7 +24,7 @@ use Rattle.fcg_classfile.specs.Breaks.Number.{u2_at}
 use Rattle.fcg_classfile.specs.Breaks.Pool.{Entries}
 use Rattle.fcg_classfile.specs.Breaks.Attributes.{ones_at}
 use Rattle.fcg_classfile.specs.Breaks.Code.{code_at}
-use Rattle.fcg_classfile.specs.Breaks.Members.{Declared, Unfinished, method_of, unfinished, with_sites, Begun, declared_at, method_at, methods_at}
+use Rattle.fcg_classfile.specs.Breaks.Members.{Declared, Unfinished, method_of, unfinished, with_sites, MethodsBefore, declared_at, method_at, methods_at}
 use Rattle.fcg_views.proofs.DescLaws.{descriptor_found, descriptor_only}
 use Rattle.fcg_classfile.specs.Tables.{Holds}
 use Rattle.fcg_classfile.specs.Faults.{IsUnfinishedOf, own}
@@ -88,7 +88,7 @@ made_of cs d at (a ∷ more) x (inl (other, has)) = made_of cs d (at + length (a
 made_of cs d at (a ∷ more) x (inr one) = record { method = refl; calls = refl }
 
 -- from method to method, with the methods before
-pub record MeansMethod (cs : List Constant) (s : Begun) (c : MemberInfo) (m : Unfinished) (next : Begun) : Type 0 where
+pub record MeansMethod (cs : List Constant) (s : MethodsBefore) (c : MemberInfo) (m : Unfinished) (next : MethodsBefore) : Type 0 where
   pub declared : Declared
   pub is : IsDeclared cs IsDescriptor c declared.flags declared.name declared.desc
   pub found : Found
@@ -99,10 +99,10 @@ pub record MeansMethod (cs : List Constant) (s : Begun) (c : MemberInfo) (m : Un
   pub at : next.at ≡ s.at + length (member_info c)
   pub earlier : next.earlier ≡ s.earlier ++ m.0 ∷ []
 
-made_as : (cs : List Constant) (s : Begun) (c : MemberInfo) (m : Unfinished) (next : Begun) → (is : MeansMethod cs s c m next) → IsMade is.declared is.found m
+made_as : (cs : List Constant) (s : MethodsBefore) (c : MemberInfo) (m : Unfinished) (next : MethodsBefore) → (is : MeansMethod cs s c m next) → IsMade is.declared is.found m
 made_as cs s c m next is = subst (λ (y : Unfinished). IsMade is.declared is.found y) is.made (made_of cs is.declared (s.at + 6 + 2) c.attributes is.found is.code.code)
 
-unfinished_is : (cs : List Constant) (s : Begun) (c : MemberInfo) (m : Unfinished) (next : Begun) → MeansMethod cs s c m next → IsUnfinishedOf cs c m
+unfinished_is : (cs : List Constant) (s : MethodsBefore) (c : MemberInfo) (m : Unfinished) (next : MethodsBefore) → MeansMethod cs s c m next → IsUnfinishedOf cs c m
 unfinished_is cs s c m next is =
     let made = made_as cs s c m next is in
     record {
@@ -114,14 +114,14 @@ unfinished_is cs s c m next is =
     }
 
 module _ (pool : Entries) (fits : IsBytes pool.bytes) (constants : List Constant) (holds : Holds pool constants) where
-  abbrev place : Begun → ℕ
+  abbrev place : MethodsBefore → ℕ
   place s = s.at
 
   -- the sites of the methods before are few
-  abbrev pub HasFew : Begun → Type 0
+  abbrev pub HasFew : MethodsBefore → Type 0
   HasFew s = site_count s.earlier ≤ 1000000
 
-  row_found : (k : ℕ) (s : Begun) (x : Unfinished × Begun) → HasFew s → method_at pool k s ≡ Ok x → FoundRow pool.bytes place member_info (MeansMethod constants) (method_at pool) s x.0 x.1
+  row_found : (k : ℕ) (s : MethodsBefore) (x : Unfinished × MethodsBefore) → HasFew s → method_at pool k s ≡ Ok x → FoundRow pool.bytes place member_info (MeansMethod constants) (method_at pool) s x.0 x.1
   unfolding method_at
   row_found k s x le e =
       let a = bind_ok (declared_at pool is_descriptor s.at) _ x e in
@@ -131,7 +131,7 @@ module _ (pool : Entries) (fits : IsBytes pool.bytes) (constants : List Constant
       let body = ones_found pool fits constants holds (codes "Code") DoubleCode (code_at (site_count s.earlier)) (SaysCode constants) (FewWith (site_count s.earlier)) nothing (code_reading constants (site_count s.earlier) le) (omega arith) (s.at + 6) c.0 c.1 in
       let info : MemberInfo = record { flags = d.flags; name = d.name; desc = d.desc; attributes = body.table } in
       let whole = closed (u2 d.flags ++ (u2 d.name ++ (u2 d.desc ++ u2 (length body.table)))) (flat_map attribute body.table) (Stands-then d.stands body.stands) in
-      subst (λ (y : Unfinished × Begun). FoundRow pool.bytes place member_info (MeansMethod constants) (method_at pool) s y.0 y.1) (ok_is _ x c.2) (record {
+      subst (λ (y : Unfinished × MethodsBefore). FoundRow pool.bytes place member_info (MeansMethod constants) (method_at pool) s y.0 y.1) (ok_is _ x c.2) (record {
         row = info;
         stands = whole;
         meant = record {
@@ -147,7 +147,7 @@ module _ (pool : Entries) (fits : IsBytes pool.bytes) (constants : List Constant
         };
       })
 
-  pub method_found : (k : ℕ) (s : Begun) (x : Unfinished × Begun) → s.at ≤ length pool.bytes → HasFew s → method_at pool k s ≡ Ok x → FoundRow pool.bytes place member_info (MeansMethod constants) (method_at pool) s x.0 x.1 × HasFew x.1
+  pub method_found : (k : ℕ) (s : MethodsBefore) (x : Unfinished × MethodsBefore) → s.at ≤ length pool.bytes → HasFew s → method_at pool k s ≡ Ok x → FoundRow pool.bytes place member_info (MeansMethod constants) (method_at pool) s x.0 x.1 × HasFew x.1
   method_found k s x at few e =
       let r = row_found k s x few e in
       let m = r.meant in
@@ -156,7 +156,7 @@ module _ (pool : Entries) (fits : IsBytes pool.bytes) (constants : List Constant
       let count : site_count x.1.earlier ≡ site_count s.earlier + length x.0.0.sites = ap site_count m.earlier ∙ count_more s.earlier x.0.0 in
       (r, (let some = m.few in omega arith))
 
-  method_only : (k : ℕ) (s : Begun) (c : MemberInfo) (m : Unfinished) (next : Begun) (rest : List ℕ) (after : ℕ) → MeansMethod constants s c m next → Stands pool.bytes s.at (member_info c ++ rest) after
+  method_only : (k : ℕ) (s : MethodsBefore) (c : MemberInfo) (m : Unfinished) (next : MethodsBefore) (rest : List ℕ) (after : ℕ) → MeansMethod constants s c m next → Stands pool.bytes s.at (member_info c ++ rest) after
       → (method_at pool k s ≡ Ok (m, next)) × (next.at ≡ s.at + length (member_info c))
   unfolding method_at
   method_only k s c m next rest after is t =
@@ -169,10 +169,10 @@ module _ (pool : Entries) (fits : IsBytes pool.bytes) (constants : List Constant
       (rw (d.0, is.fresh, a.read_is, a.value, is.made, end, ← is.earlier) refl, is.at)
 
   -- ---- along the rows
-  abbrev pub Follow : Begun → List MemberInfo → List Unfinished → Begun → Type 0
+  abbrev pub Follow : MethodsBefore → List MemberInfo → List Unfinished → MethodsBefore → Type 0
   Follow s cs ms end = Linked pool.bytes place member_info (MeansMethod constants) (method_at pool) s cs ms end
 
-  pub follow_found : (s : Begun) (cs : List MemberInfo) (ms : List Unfinished) (end : Begun) → Follow s cs ms end → AllZip (IsUnfinishedOf constants) cs ms × AreFresh is_alike s.earlier (own ms)
+  pub follow_found : (s : MethodsBefore) (cs : List MemberInfo) (ms : List Unfinished) (end : MethodsBefore) → Follow s cs ms end → AllZip (IsUnfinishedOf constants) cs ms × AreFresh is_alike s.earlier (own ms)
   follow_found s [] [] end l = (tt, tt)
   follow_found s [] (m ∷ ms) end l = absurd l
   follow_found s (c ∷ cs) [] end l = absurd l
@@ -183,7 +183,7 @@ module _ (pool : Entries) (fits : IsBytes pool.bytes) (constants : List Constant
       ((unfinished_is constants s c m l.0 l.1, below.0), (fresh, subst (λ (e : List Method). AreFresh is_alike e (own ms)) l.1.earlier below.1))
 
   -- the sites of all methods are few
-  follow_few : (s : Begun) (cs : List MemberInfo) (ms : List Unfinished) (end : Begun) → Follow s cs ms end → site_count s.earlier ≤ 1000000 → site_count (s.earlier ++ own ms) ≤ 1000000
+  follow_few : (s : MethodsBefore) (cs : List MemberInfo) (ms : List Unfinished) (end : MethodsBefore) → Follow s cs ms end → site_count s.earlier ≤ 1000000 → site_count (s.earlier ++ own ms) ≤ 1000000
   follow_few s [] [] end l few = subst (λ (e : List Method). site_count e ≤ 1000000) (sym (append-nil s.earlier)) few
   follow_few s [] (m ∷ ms) end l few = absurd l
   follow_few s (c ∷ cs) [] end l few = absurd l
@@ -206,7 +206,7 @@ module _ (pool : Entries) (fits : IsBytes pool.bytes) (constants : List Constant
   pub methods_found : (at : ℕ) (x : List Unfinished × ℕ) → methods_at pool at ≡ Ok x → FoundMethods at x.0 x.1
   unfolding methods_at
   methods_found at x e =
-      let begun : Begun = record { at = at + 2; earlier = [] } in
+      let begun : MethodsBefore = record { at = at + 2; earlier = [] } in
       let a = bind_ok (u2_at pool.bytes at 0) _ x e in
       let b = bind_ok (rows (method_at pool) a.0 0 begun) _ x a.2 in
       let n = u2_found pool.bytes at 0 a.0 fits a.1 in
@@ -282,13 +282,13 @@ module _ (pool : Entries) (fits : IsBytes pool.bytes) (constants : List Constant
     owns_distinct (c ∷ cs) [] z d = absurd z
     owns_distinct (c ∷ cs) (v ∷ vs) z d = (owns_apart v z.0.found.sites cs vs z.1 d.0, owns_distinct cs vs z.1 d.1)
 
-    record Followed (s : Begun) (cs : List MemberInfo) (vs : List Method) : Type 0 where
+    record Followed (s : MethodsBefore) (cs : List MemberInfo) (vs : List Method) : Type 0 where
       methods : List Unfinished
-      end : Begun
+      end : MethodsBefore
       linked : Follow s cs methods end
       finish : AllZip (FinishesAs constants bootstrap) methods vs
 
-    follow_only : (s : Begun) (cs : List MemberInfo) (vs : List Method) (z : AllZip IsMethod cs vs) → AreFresh is_alike s.earlier (owns cs vs z) → site_count (s.earlier ++ owns cs vs z) ≤ 1000000 → Followed s cs vs
+    follow_only : (s : MethodsBefore) (cs : List MemberInfo) (vs : List Method) (z : AllZip IsMethod cs vs) → AreFresh is_alike s.earlier (owns cs vs z) → site_count (s.earlier ++ owns cs vs z) ≤ 1000000 → Followed s cs vs
     follow_only s [] [] z f few = record { methods = []; end = s; linked = refl; finish = tt }
     follow_only s [] (v ∷ vs) z f few = absurd z
     follow_only s (c ∷ cs) [] z f few = absurd z
@@ -297,7 +297,7 @@ module _ (pool : Entries) (fits : IsBytes pool.bytes) (constants : List Constant
         let d : Declared = record { flags = v.flags; name = v.name; desc = v.desc } in
         let m : Unfinished = unfinished d (code_placed constants (s.at + 6 + 2) c.attributes is.found is.code.code) in
         let made = made_of constants d (s.at + 6 + 2) c.attributes is.found is.code.code in
-        let next : Begun = record { at = s.at + length (member_info c); earlier = s.earlier ++ m.0 ∷ [] } in
+        let next : MethodsBefore = record { at = s.at + length (member_info c); earlier = s.earlier ++ m.0 ∷ [] } in
         let own_is : with_sites v is.found.sites ≡ m.0 = sym made.method in
         let fresh = subst (λ (y : Method). AreFresh is_alike (s.earlier ++ y ∷ []) (owns cs vs z.1)) own_is f.1 in
         let still = subst (λ (y : Method). site_count ((s.earlier ++ y ∷ []) ++ owns cs vs z.1) ≤ 1000000) own_is (subst (λ (e : List Method). site_count e ≤ 1000000) (sym (one_more s.earlier (with_sites v is.found.sites) (owns cs vs z.1))) few) in
@@ -341,7 +341,7 @@ module _ (pool : Entries) (fits : IsBytes pool.bytes) (constants : List Constant
         → Stands pool.bytes at (u2 (length table) ++ (flat_map member_info table ++ rest)) after → ReadMethods at vs rest after
     unfolding methods_at
     methods_only at table vs rest after few methods distinct few_sites s =
-        let begun : Begun = record { at = at + 2; earlier = [] } in
+        let begun : MethodsBefore = record { at = at + 2; earlier = [] } in
         let n = u2_only pool.bytes at 0 (length table) (flat_map member_info table ++ rest) after few s in
         let own_few = owns_few table vs methods in
         let along = follow_only begun table vs methods (distinct_only is_alike (owns table vs methods) (owns_distinct table vs methods distinct)) (omega arith) in

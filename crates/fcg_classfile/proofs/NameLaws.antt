@@ -11,7 +11,7 @@ use Rattle.fcg_grammar.proofs.Standing.{ok_is}
 use Rattle.fcg_classfile.specs.declared.fault.PoolRule.{PoolRule}
 use Rattle.fcg_classfile.specs.declared.fault.PoolRule.TheVariants.{WrongKind}
 use Rattle.fcg_classfile.specs.ClassFile.{is_one_of, Constant, Utf8, Plain, Named, Pair, Handle}
-use Rattle.fcg_classfile.specs.Constants.{joined, constant_at, NamesUtf8, NamesClass, NamesPair, NamesMember, NamesReference, NamesHandle, NamesDynamic}
+use Rattle.fcg_classfile.specs.Constants.{of_slot, constant_at, NamesUtf8, NamesClass, NamesPair, NamesMember, NamesReference, NamesHandle, NamesDynamic}
 use Rattle.fcg_classfile.specs.Breaks.Fault.{at_place}
 use Rattle.fcg_classfile.specs.Breaks.Pool.{Placed, Entries, in_slot, constant_of, text_in, text_of, name_in, name_of, Indexes, pair_in, pair_of, Reference, reference_of, handle_in, handle_of, dynamic_of}
 use Rattle.fcg_classfile.specs.Tables.{Holds}
@@ -23,12 +23,12 @@ at_ok at index (Err rule) x e = absurd cc
 abbrev bare : Option Placed → Option Constant
 bare slot = option_map (λ p. p.constant) slot
 
-slot_by : (o : Option (Option Placed)) (c : Constant) → in_slot o ≡ Ok c → joined (option_map bare o) ≡ Some c
+slot_by : (o : Option (Option Placed)) (c : Constant) → in_slot o ≡ Ok c → of_slot (option_map bare o) ≡ Some c
 slot_by None c e = absurd cc
 slot_by (Some None) c e = absurd cc
 slot_by (Some (Some p)) c e = let same : p.constant ≡ c = cc in ap (λ (x : Constant). Some x) same
 
-slot_back : (o : Option (Option Placed)) (c : Constant) → joined (option_map bare o) ≡ Some c → in_slot o ≡ Ok c
+slot_back : (o : Option (Option Placed)) (c : Constant) → of_slot (option_map bare o) ≡ Some c → in_slot o ≡ Ok c
 slot_back None c e = absurd cc
 slot_back (Some None) c e = absurd cc
 slot_back (Some (Some p)) c e = let same : p.constant ≡ c = cc in ap (λ (x : Constant). Ok x) same
@@ -84,13 +84,13 @@ module _ (pool : Entries) (constants : List Constant) (holds : Holds pool consta
   unfolding constant_of
   constant_found zero c e = absurd cc
   constant_found (suc i) c e =
-      ap (λ (l : List (Option Constant)). joined (slice_get l i)) (sym holds) ∙ ap joined (slice_get-map bare pool.slots i) ∙ slot_by (slice_get pool.slots i) c e
+      ap (λ (l : List (Option Constant)). of_slot (slice_get l i)) (sym holds) ∙ ap of_slot (slice_get-map bare pool.slots i) ∙ slot_by (slice_get pool.slots i) c e
 
   pub constant_only : (index : ℕ) (c : Constant) → constant_at constants index ≡ Some c → constant_of pool index ≡ Ok c
   unfolding constant_of
   constant_only zero c e = absurd cc
   constant_only (suc i) c e =
-      slot_back (slice_get pool.slots i) c (sym (ap joined (slice_get-map bare pool.slots i)) ∙ ap (λ (l : List (Option Constant)). joined (slice_get l i)) holds ∙ e)
+      slot_back (slice_get pool.slots i) c (sym (ap of_slot (slice_get-map bare pool.slots i)) ∙ ap (λ (l : List (Option Constant)). of_slot (slice_get l i)) holds ∙ e)
 
   pub text_found : (index : ℕ) (text : List ℕ) → text_of pool index ≡ Ok text → NamesUtf8 constants index text
   unfolding text_of

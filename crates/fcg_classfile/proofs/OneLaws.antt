@@ -19,7 +19,7 @@ use Rattle.fcg_views.specs.Valid.{is_same}
 use Rattle.fcg_classfile.specs.Breaks.Fault.{fault}
 use Rattle.fcg_classfile.specs.Breaks.Number.{u2_at}
 use Rattle.fcg_classfile.specs.Breaks.Pool.{Entries}
-use Rattle.fcg_classfile.specs.Breaks.Attributes.{up_to, text_at, content_at, OneBegun, one_read_at, other_at, one_at, ones_at}
+use Rattle.fcg_classfile.specs.Breaks.Attributes.{up_to, text_at, content_at, AttributesBefore, one_read_at, other_at, one_at, ones_at}
 use Rattle.fcg_classfile.specs.Tables.{Holds}
 use Rattle.fcg_classfile.proofs.Places.{u2_found, u2_only}
 use Rattle.fcg_classfile.proofs.WordLaws.{same_name, is_itself, other_name, is_other_name}
@@ -52,10 +52,10 @@ pub record IsReading {X : Type 0} (constants : List Constant) (said_at : Entries
   pub only : (pool : Entries) → IsBytes pool.bytes → Holds pool constants → (at : ℕ) (text : List ℕ) (x : X) → Says text x → Keeps x → Stands pool.bytes at text (length pool.bytes) → said_at pool at ≡ Ok x
 
 module _ {X : Type 0} where
-  abbrev pub stood : ℕ → Option (ℕ × X) → OneBegun X
+  abbrev pub stood : ℕ → Option (ℕ × X) → AttributesBefore X
   stood at read = record { at = at; read = read }
 
-  begun_is : (b : OneBegun X) (at : ℕ) (read : Option (ℕ × X)) → b.at ≡ at → b.read ≡ read → stood at read ≡ b
+  begun_is : (b : AttributesBefore X) (at : ℕ) (read : Option (ℕ × X)) → b.at ≡ at → b.read ≡ read → stood at read ≡ b
   begun_is b at read p q = ap (λ (n : ℕ). stood n read) (sym p) ∙ ap (λ (r : Option (ℕ × X)). stood b.at r) (sym q)
 
   -- where the attribute of the name stands, if there is one, and what it says
@@ -67,7 +67,7 @@ module _ {X : Type 0} where
 -- The pool, and its constants; the name; the rule that a second one breaks; how its content is read, and what it says.
 module _ {X : Type 0} (pool : Entries) (fits : IsBytes pool.bytes) (constants : List Constant) (holds : Holds pool constants) (word : List ℕ) (twice : ClassRule) (said_at : Entries → ℕ → Result X ClassFault) (Says : List ℕ → X → Type 0) (Keeps : X → Type 0) (without : X) (reading : IsReading constants said_at Says Keeps) where
   -- the only attribute of the name
-  record IsOne (s : OneBegun X) (a : Attribute) (next : OneBegun X) : Type 0 where
+  record IsOne (s : AttributesBefore X) (a : Attribute) (next : AttributesBefore X) : Type 0 where
     x : X
     once : s.read ≡ None
     named : IsNamed constants a word
@@ -76,18 +76,18 @@ module _ {X : Type 0} (pool : Entries) (fits : IsBytes pool.bytes) (constants : 
     keeps : Keeps x
 
   -- from attribute to attribute, with what was read before
-  abbrev Means : OneBegun X → Attribute → Unit {0} → OneBegun X → Type 0
+  abbrev Means : AttributesBefore X → Attribute → Unit {0} → AttributesBefore X → Type 0
   Means s a u next = (next.at ≡ s.at + length (attribute a)) × ((IsOther constants word a × (next.read ≡ s.read)) ⊎ IsOne s a next)
 
-  abbrev place : OneBegun X → ℕ
+  abbrev place : AttributesBefore X → ℕ
   place s = s.at
 
-  abbrev Row : ℕ → OneBegun X → Result (Unit {0} × OneBegun X) ClassFault
+  abbrev Row : ℕ → AttributesBefore X → Result (Unit {0} × AttributesBefore X) ClassFault
   Row = one_at word twice said_at pool
 
   -- ---- what is read
 
-  abbrev Found : OneBegun X → Unit {0} × OneBegun X → Type 0
+  abbrev Found : AttributesBefore X → Unit {0} × AttributesBefore X → Type 0
   Found s x = FoundRow pool.bytes place attribute Means Row s x.0 x.1
 
   -- the content of an attribute is the text that was read in it
@@ -96,7 +96,7 @@ module _ {X : Type 0} (pool : Entries) (fits : IsBytes pool.bytes) (constants : 
       let end = ends_at pool.bytes after here.within in
       one_text pool.bytes at after content text here (Stands-to after end (outer after pool.bytes at text (length (take after pool.bytes)) here.within there))
 
-  one_found : (s : OneBegun X) (name : List ℕ) (x : Unit {0} × OneBegun X) → text_at pool s.at ≡ Ok name → is_same name word ≡ true → one_read_at word twice said_at pool s ≡ Ok x → Found s x
+  one_found : (s : AttributesBefore X) (name : List ℕ) (x : Unit {0} × AttributesBefore X) → text_at pool s.at ≡ Ok name → is_same name word ≡ true → one_read_at word twice said_at pool s ≡ Ok x → Found s x
   unfolding one_read_at
   one_found s name x named is e =
       let a = bind_ok (unless_broken (is_none s.read) (fault s.at 0 twice)) _ x e in
@@ -121,13 +121,13 @@ module _ {X : Type 0} (pool : Entries) (fits : IsBytes pool.bytes) (constants : 
         );
       })
 
-  other_found : (s : OneBegun X) (name : List ℕ) (x : Unit {0} × OneBegun X) → text_at pool s.at ≡ Ok name → is_same name word ≡ false → other_at word twice said_at pool s ≡ Ok x → Found s x
+  other_found : (s : AttributesBefore X) (name : List ℕ) (x : Unit {0} × AttributesBefore X) → text_at pool s.at ≡ Ok name → is_same name word ≡ false → other_at word twice said_at pool s ≡ Ok x → Found s x
   other_found s name x named is e =
       let b = bind_ok (content_at pool s.at) _ x e in
       let f = whole_attribute pool fits constants holds s.at b.0 name (text_at_found pool fits constants holds s.at name named) (content_found pool fits constants holds s.at b.0 b.1) in
       subst (Found s) (ok_is _ x b.2) (record { row = f.row; stands = f.stands; meant = (f.stands.ends, inl ((name, f.named, other_name name word is), refl)) })
 
-  row_found : (k : ℕ) (s : OneBegun X) (x : Unit {0} × OneBegun X) → s.at ≤ length pool.bytes → Row k s ≡ Ok x → Found s x
+  row_found : (k : ℕ) (s : AttributesBefore X) (x : Unit {0} × AttributesBefore X) → s.at ≤ length pool.bytes → Row k s ≡ Ok x → Found s x
   unfolding one_at
   row_found k s x le e =
       let a = bind_ok (text_at pool s.at) _ x e in
@@ -146,29 +146,29 @@ module _ {X : Type 0} (pool : Entries) (fits : IsBytes pool.bytes) (constants : 
       let end : at + length (attribute a) ≡ length (take (at + length (attribute a)) pool.bytes) = sym (ends_at pool.bytes (at + length (attribute a)) front.within) in
       Stands-to (length (take (at + length (attribute a)) pool.bytes)) end (inner (at + length (attribute a)) pool.bytes (at + 6) a.content (at + length (attribute a)) (omega arith) front.within front)
 
-  row_only : (k : ℕ) (s : OneBegun X) (a : Attribute) (u : Unit {0}) (next : OneBegun X) (rest : List ℕ) (after : ℕ) → Means s a u next → Stands pool.bytes s.at (attribute a ++ rest) after
+  row_only : (k : ℕ) (s : AttributesBefore X) (a : Attribute) (u : Unit {0}) (next : AttributesBefore X) (rest : List ℕ) (after : ℕ) → Means s a u next → Stands pool.bytes s.at (attribute a ++ rest) after
       → (Row k s ≡ Ok (u, next)) × (next.at ≡ s.at + length (attribute a))
   unfolding one_at one_read_at
   row_only k s a u next rest after (at, inl ((name, named, other), same)) t =
       let r = attribute_read pool fits constants holds s.at a name rest after named t in
-      (rw (r.name_is, is_other_name name word other, r.content_is) (ap (λ (b : OneBegun X). Ok (tt, b)) (begun_is next (s.at + length (attribute a)) s.read at same)), at)
+      (rw (r.name_is, is_other_name name word other, r.content_is) (ap (λ (b : AttributesBefore X). Ok (tt, b)) (begun_is next (s.at + length (attribute a)) s.read at same)), at)
   row_only k s a u next rest after (at, inr is) t =
       let r = attribute_read pool fits constants holds s.at a word rest after is.named t in
       let there = limited s.at a rest after r.ends r.content_stands in
       let end : ℕ = s.at + length (attribute a) in
       let c = reading.only (up_to end pool) (IsBytes-take end pool.bytes fits) holds (s.at + 6) a.content is.x is.says is.keeps there in
-      (rw (r.name_is, is_itself word, is.once, r.content_is, c) (ap (λ (b : OneBegun X). Ok (tt, b)) (begun_is next end (Some (s.at, is.x)) at is.read)), at)
+      (rw (r.name_is, is_itself word, is.once, r.content_is, c) (ap (λ (b : AttributesBefore X). Ok (tt, b)) (begun_is next end (Some (s.at, is.x)) at is.read)), at)
 
   -- ---- along the rows
-  abbrev Follow : OneBegun X → List Attribute → List (Unit {0}) → OneBegun X → Type 0
+  abbrev Follow : AttributesBefore X → List Attribute → List (Unit {0}) → AttributesBefore X → Type 0
   Follow s cs us end = Linked pool.bytes place attribute Means Row s cs us end
 
   none_or_some : (o : Option (ℕ × X)) (x : ℕ × X) → o ≡ None → o ≡ Some x → ⊥
   none_or_some o x p q = let bad = sym p ∙ q in cc
 
   -- after the one there is no other
-  after_one : (s : OneBegun X) (cs : List Attribute) (us : List (Unit {0})) (end : OneBegun X) (x : ℕ × X) → s.read ≡ Some x → Follow s cs us end → AllByRecursion (IsOther constants word) cs × (end.read ≡ Some x)
-  after_one s [] [] end x is l = (tt, ap (λ (b : OneBegun X). b.read) (sym l) ∙ is)
+  after_one : (s : AttributesBefore X) (cs : List Attribute) (us : List (Unit {0})) (end : AttributesBefore X) (x : ℕ × X) → s.read ≡ Some x → Follow s cs us end → AllByRecursion (IsOther constants word) cs × (end.read ≡ Some x)
+  after_one s [] [] end x is l = (tt, ap (λ (b : AttributesBefore X). b.read) (sym l) ∙ is)
   after_one s [] (u ∷ us) end x is l = absurd l
   after_one s (c ∷ cs) [] end x is l = absurd l
   after_one s (c ∷ cs) (u ∷ us) end x is (next, (at, inl (other, same)), more) =
@@ -188,8 +188,8 @@ module _ {X : Type 0} (pool : Entries) (fits : IsBytes pool.bytes) (constants : 
     read_is : read ≡ at_place at table x has
     keeps : Keeps x
 
-  follow_found : Keeps without → (s : OneBegun X) (cs : List Attribute) (us : List (Unit {0})) (end : OneBegun X) → s.read ≡ None → Follow s cs us end → Followed s.at cs end.read
-  follow_found k s [] [] end is l = record { x = without; has = refl; read_is = ap (λ (b : OneBegun X). b.read) (sym l) ∙ is; keeps = k }
+  follow_found : Keeps without → (s : AttributesBefore X) (cs : List Attribute) (us : List (Unit {0})) (end : AttributesBefore X) → s.read ≡ None → Follow s cs us end → Followed s.at cs end.read
+  follow_found k s [] [] end is l = record { x = without; has = refl; read_is = ap (λ (b : AttributesBefore X). b.read) (sym l) ∙ is; keeps = k }
   follow_found k s [] (u ∷ us) end is l = absurd l
   follow_found k s (c ∷ cs) [] end is l = absurd l
   follow_found k s (c ∷ cs) (u ∷ us) end is (next, (at, inl (other, same)), more) =
@@ -204,27 +204,27 @@ module _ {X : Type 0} (pool : Entries) (fits : IsBytes pool.bytes) (constants : 
       let below = after_one next cs us end (s.at, one.x) one.read more in
       record { x = one.x; has = inr (one.named, one.says, below.0); read_is = below.1; keeps = one.keeps }
 
-  record Ended (s : OneBegun X) (cs : List Attribute) (read : Option (ℕ × X)) : Type 0 where
+  record Ended (s : AttributesBefore X) (cs : List Attribute) (read : Option (ℕ × X)) : Type 0 where
     units : List (Unit {0})
-    end : OneBegun X
+    end : AttributesBefore X
     linked : Follow s cs units end
     read_is : end.read ≡ read
 
-  others_follow : (s : OneBegun X) (cs : List Attribute) → AllByRecursion (IsOther constants word) cs → Ended s cs s.read
+  others_follow : (s : AttributesBefore X) (cs : List Attribute) → AllByRecursion (IsOther constants word) cs → Ended s cs s.read
   others_follow s [] are = record { units = []; end = s; linked = refl; read_is = refl }
   others_follow s (c ∷ cs) are =
-      let next : OneBegun X = stood (s.at + length (attribute c)) s.read in
+      let next : AttributesBefore X = stood (s.at + length (attribute c)) s.read in
       let below = others_follow next cs are.1 in
       record { units = tt ∷ below.units; end = below.end; linked = (next, (refl, inl (are.0, refl)), below.linked); read_is = below.read_is }
 
-  follow_only : (s : OneBegun X) (cs : List Attribute) (x : X) → s.read ≡ None → (has : Has cs x) → Keeps x → Ended s cs (at_place s.at cs x has)
+  follow_only : (s : AttributesBefore X) (cs : List Attribute) (x : X) → s.read ≡ None → (has : Has cs x) → Keeps x → Ended s cs (at_place s.at cs x has)
   follow_only s [] x none has k = record { units = []; end = s; linked = refl; read_is = none }
   follow_only s (c ∷ cs) x none (inl (other, has)) k =
-      let next : OneBegun X = stood (s.at + length (attribute c)) s.read in
+      let next : AttributesBefore X = stood (s.at + length (attribute c)) s.read in
       let below = follow_only next cs x none has k in
       record { units = tt ∷ below.units; end = below.end; linked = (next, (refl, inl (other, refl)), below.linked); read_is = below.read_is }
   follow_only s (c ∷ cs) x none (inr (named, says, others)) k =
-      let next : OneBegun X = stood (s.at + length (attribute c)) (Some (s.at, x)) in
+      let next : AttributesBefore X = stood (s.at + length (attribute c)) (Some (s.at, x)) in
       let below = others_follow next cs others in
       record {
         units = tt ∷ below.units;
@@ -234,7 +234,7 @@ module _ {X : Type 0} (pool : Entries) (fits : IsBytes pool.bytes) (constants : 
       }
 
   -- ---- all attributes
-  pub record FoundOnes (at : ℕ) (end : OneBegun X) : Type 0 where
+  pub record FoundOnes (at : ℕ) (end : AttributesBefore X) : Type 0 where
     pub table : List Attribute
     pub stands : Stands pool.bytes at (u2 (length table) ++ flat_map attribute table) end.at
     pub few : length table < 2 ^ 16
@@ -243,16 +243,16 @@ module _ {X : Type 0} (pool : Entries) (fits : IsBytes pool.bytes) (constants : 
     pub read_is : end.read ≡ at_place (at + 2) table x has
     pub keeps : Keeps x
 
-  pub ones_found : Keeps without → (at : ℕ) (end : OneBegun X) → ones_at word twice said_at pool at ≡ Ok end → FoundOnes at end
+  pub ones_found : Keeps without → (at : ℕ) (end : AttributesBefore X) → ones_at word twice said_at pool at ≡ Ok end → FoundOnes at end
   unfolding ones_at
   ones_found k at end e =
-      let begun : OneBegun X = stood (at + 2) None in
+      let begun : AttributesBefore X = stood (at + 2) None in
       let a = bind_ok (u2_at pool.bytes at 0) _ end e in
       let b = bind_ok (rows Row a.0 0 begun) _ end a.2 in
       let n = u2_found pool.bytes at 0 a.0 fits a.1 in
       let r = rows_found pool.bytes place attribute Means Row row_found a.0 0 begun b.0 n.0.within b.1 in
       let along = follow_found k begun r.table b.0.0 b.0.1 refl r.meant in
-      subst (λ (y : OneBegun X). FoundOnes at y) (ok_is b.0.1 end b.2) (record {
+      subst (λ (y : AttributesBefore X). FoundOnes at y) (ok_is b.0.1 end b.2) (record {
         table = r.table;
         stands = subst (λ (m : ℕ). Stands pool.bytes at (u2 m ++ flat_map attribute r.table) b.0.1.at) (sym r.many) (Stands-then n.0 r.stands);
         few = omega (arith, r.many, n.1);
@@ -263,7 +263,7 @@ module _ {X : Type 0} (pool : Entries) (fits : IsBytes pool.bytes) (constants : 
       })
 
   pub record ReadOnes (at : ℕ) (read : Option (ℕ × X)) (rest : List ℕ) (after : ℕ) : Type 0 where
-    pub end : OneBegun X
+    pub end : AttributesBefore X
     pub read_is : ones_at word twice said_at pool at ≡ Ok end
     pub value : end.read ≡ read
     pub stands : Stands pool.bytes end.at rest after
@@ -272,7 +272,7 @@ module _ {X : Type 0} (pool : Entries) (fits : IsBytes pool.bytes) (constants : 
       → ReadOnes at (at_place (at + 2) table x has) rest after
   unfolding ones_at
   ones_only at table x rest after few has k s =
-      let begun : OneBegun X = stood (at + 2) None in
+      let begun : AttributesBefore X = stood (at + 2) None in
       let n = u2_only pool.bytes at 0 (length table) (flat_map attribute table ++ rest) after few s in
       let along = follow_only begun table x refl has k in
       let r = rows_only pool.bytes place attribute Means Row row_only 0 begun table along.units along.end rest after along.linked n.1 in

@@ -1,5 +1,5 @@
 -- Numbers and strings of bytes at a place of a class file: what is read is spelled so, and what is spelled so is read.
-use Rattle.std.proofs.Common.{◌≡◌, ℕ, ◌+◌, ◌^◌, ◌<◌, List, [], ◌∷◌, ◌++◌, length, sym, subst, arith}
+use Rattle.std.proofs.Common.{◌≡◌, ℕ, ◌+◌, ◌^◌, ◌<◌, List, [], ◌++◌, length, sym, subst, arith}
 use Rattle.std.specs.Prelude.{Ok}
 use Rattle.std.proofs.lemmas.List.{append-nil, length-append}
 use Rattle.fcg_grammar.specs.Number.{part}
@@ -8,13 +8,7 @@ use Rattle.fcg_grammar.proofs.Standing as standing
 use Rattle.fcg_grammar.proofs.Standing.{Stands}
 use Rattle.fcg_classfile.specs.declared.fault.ClassRule.TheVariants.{Cut}
 use Rattle.fcg_classfile.specs.Breaks.Fault.{fault}
-use Rattle.fcg_classfile.specs.Breaks.Number.{u1_at, u2_at, u4_at, part_at}
-
-pub u1_found : (bytes : List ℕ) (at index n : ℕ) → u1_at bytes at index ≡ Ok n → Stands bytes at (n ∷ []) (at + 1)
-u1_found bytes at index n e = standing.u1_found (fault at index Cut) bytes at n e
-
-pub u1_only : (bytes : List ℕ) (at index n : ℕ) (rest : List ℕ) (after : ℕ) → Stands bytes at (n ∷ rest) after → (u1_at bytes at index ≡ Ok n) × Stands bytes (at + 1) rest after
-u1_only bytes at index n rest after s = standing.u1_only (fault at index Cut) bytes at n rest after s
+use Rattle.fcg_classfile.specs.Breaks.Number.{u2_at, u4_at, part_at}
 
 pub u2_found : (bytes : List ℕ) (at index n : ℕ) → IsBytes bytes → u2_at bytes at index ≡ Ok n → Stands bytes at (u2 n) (at + 2) × (n < 2 ^ 16)
 u2_found bytes at index n fits e = standing.u2_found (fault at index Cut) bytes at n fits e

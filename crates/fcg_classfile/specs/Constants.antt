@@ -4,13 +4,13 @@ use Rattle.std.specs.List.{slice_get}
 use Rattle.fcg_classfile.specs.ClassFile.{is_one_of, Constant, Utf8, Named, Pair, Handle, slots}
 
 -- the constant at an index; index 0 names nothing, nor does the second of a Long or Double
-abbrev pub joined : Option (Option Constant) → Option Constant
-joined None = None
-joined (Some slot) = slot
+abbrev pub of_slot : Option (Option Constant) → Option Constant
+of_slot None = None
+of_slot (Some slot) = slot
 
 abbrev pub constant_at : List Constant → ℕ → Option Constant
 constant_at pool zero = None
-constant_at pool (suc i) = joined (slice_get (slots pool) i)
+constant_at pool (suc i) = of_slot (slice_get (slots pool) i)
 
 abbrev pub NamesUtf8 : List Constant → ℕ → List ℕ → Type 0
 NamesUtf8 pool index text = constant_at pool index ≡ Some (Utf8 text)

@@ -4,5 +4,6 @@ pub mod Instructions
 pub mod Sites
 pub mod Reads
 pub mod Breaks
+pub mod Internal
 pub mod Tables
 pub mod Faults

@@ -9,7 +9,7 @@ use Rattle.fcg_views.specs.declared.view.SiteKind.{SiteKind}
 use Rattle.fcg_views.specs.declared.view.SiteKind.TheVariants.{Virtual, Interface, Special, Static, New, StaticField, Handle}
 use Rattle.fcg_views.specs.declared.view.HandleKind.TheVariants.{K5, K6, K7, K8, K9}
 use Rattle.fcg_classfile.specs.ClassFile as file
-use Rattle.fcg_classfile.specs.ClassFile.{is_one_of, Constant, BootstrapMethod}
+use Rattle.fcg_classfile.specs.ClassFile.{is_one_of, handle_tags, Constant, BootstrapMethod}
 use Rattle.fcg_classfile.specs.Constants.{constant_at, NamesClass, NamesReference, NamesDynamic}
 use Rattle.fcg_views.specs.Descriptor.{IsDescriptor, IsFieldDescriptor}
 use Rattle.fcg_classfile.specs.Instructions.{Instruction, Plain, TableSwitch, LookupSwitch, Widened, instruction}
@@ -47,11 +47,11 @@ is_dynamic op = op == 186
 -- 8 REF_newInvokeSpecial, 9 REF_invokeInterface
 abbrev pub handle_form : ℕ → Option SiteForm
 handle_form kind =
-    if kind == 5 then formed (Handle K5) (ToMethod (10 ∷ []))
-    else (if kind == 6 then formed (Handle K6) (ToMethod (10 ∷ 11 ∷ []))
-    else (if kind == 7 then formed (Handle K7) (ToMethod (10 ∷ 11 ∷ []))
-    else (if kind == 8 then formed (Handle K8) (ToMethod (10 ∷ []))
-    else (if kind == 9 then formed (Handle K9) (ToMethod (11 ∷ [])) else None))))
+    if kind == 5 then formed (Handle K5) (ToMethod (handle_tags 5))
+    else (if kind == 6 then formed (Handle K6) (ToMethod (handle_tags 6))
+    else (if kind == 7 then formed (Handle K7) (ToMethod (handle_tags 7))
+    else (if kind == 8 then formed (Handle K8) (ToMethod (handle_tags 8))
+    else (if kind == 9 then formed (Handle K9) (ToMethod (handle_tags 9)) else None))))
 
 -- a member of a type by a constant of one of these tags; the name of the type and its own have a byte or more
 pub record IsMember (pool : List Constant) (IsTyped : List ℕ → Type 0) (tags : List ℕ) (index : ℕ) (r : Ref) : Type 0 where

@@ -38,8 +38,7 @@ impl EntryTable {
         }
     }
 
-    /// Adds an entry, if it isn't there. Compares a logarithm of their number of entries. Without memory the table is as
-    /// it was.
+    /// Adds an entry, if it isn't there. Compares a logarithm of their number of entries.
     pub fn add(&mut self, entry: Entry) -> Result<(), AllocError>
         ensures { OnOk result (self.new ≡ added self.old entry) }
     {

@@ -16,7 +16,8 @@ use Rattle.fcg_partial.specs.Reading.{Begun, ref_at, refs_at, type_at, method_at
 use Rattle.fcg_partial.specs.Internal.RowPlaces.{text_at, HasText, start}
 use Rattle.fcg_partial.specs.Internal.UsedNumbers.{ReadAt, at_place, at_state, firsts_of, methods_of}
 use Rattle.fcg_partial.specs.Internal.Representation.{IsKept}
-use Rattle.fcg_partial.specs.Accessors.{HasType, HasMethod, HasRef, IsTypeAt, IsFieldAt, IsMethodAt, IsSiteAt, IsRefAt}
+use Rattle.fcg_partial.specs.Accessors.{HasType, HasMethod, HasRef}
+use Rattle.fcg_partial.specs.Internal.StandingRows.{IsTypeAt, IsFieldAt, IsMethodAt, IsSiteAt, IsRefAt}
 use Rattle.fcg_partial.proofs.GraphLaws.{graph_found}
 use Rattle.fcg_partial.proofs.OneSpelling.{graph_back}
 use Rattle.fcg_partial.proofs.KeptLaws.{kept_text, views_of_read}

@@ -15,9 +15,9 @@ use Rattle.fcg_views.specs.declared.view.Ref.{Ref}
 use Rattle.fcg_views.specs.Valid.{method_names, view_names, name_count, count_of_option}
 use Rattle.fcg_grammar.specs.Table.{table, put, by, order}
 use Rattle.fcg_partial.specs.Views.{names_of_ref, names_of_super, names_of_field, names_of_method, names_of_view, targets_of, mentions, names_of, refs_of, ref_row}
-use Rattle.fcg_partial.specs.Written.{site_names, method_site_names, view_site_names}
+use Rattle.fcg_partial.specs.Internal.Written.{site_names}
 use Rattle.fcg_partial.proofs.IndexLaws.{length_map}
-use Rattle.fcg_partial.proofs.SpelledViews.{collected_is}
+use Rattle.fcg_partial.proofs.SpelledViews.{method_site_names, view_site_names, mentions_are}
 
 -- ---- how many
 length_by : (o : Ordering) (x : List ℕ) (y : List ℕ) (ys : List (List ℕ)) → length (put x ys) ≤ suc (length ys) → length (by o (x ∷ y ∷ ys) (y ∷ ys) (y ∷ put x ys)) ≤ suc (suc (length ys))
@@ -81,7 +81,7 @@ count_views (v ∷ vs) =
 
 count_mentions : (vs : List View) → length (mentions vs) ≡ name_count vs
 count_mentions vs =
-    ap (λ (l : List (List ℕ)). length l) (sym (collected_is vs)) ∙ length-append (flat_map view_site_names vs) (flat_map names_of_view vs) ∙ count_views vs
+    ap (λ (l : List (List ℕ)). length l) (sym (mentions_are vs)) ∙ length-append (flat_map view_site_names vs) (flat_map names_of_view vs) ∙ count_views vs
 
 count_targets : (rs : List Ref) → length (flat_map names_of_ref rs) ≡ 3 * length rs
 count_targets [] = refl

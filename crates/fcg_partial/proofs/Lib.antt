@@ -22,6 +22,11 @@ pub mod SpelledViews
 pub mod Counts
 pub mod GraphOfViews
 pub mod MadeLaws
+pub mod CollectedLaws
+pub mod MentionLaws
 pub mod RowParts
 pub mod AccessLaws
 pub mod ShownLaws
+pub mod RowLaws
+pub mod ValidLaws
+pub mod SizeLaws

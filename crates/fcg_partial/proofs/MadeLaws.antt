@@ -8,9 +8,11 @@ use Rattle.fcg_views.specs.Valid.{IsValid, name_count}
 use Rattle.fcg_grammar.specs.Table.{Rises, table}
 use Rattle.fcg_partial.specs.Graph.{FitsName, FitsRef, IsGraph}
 use Rattle.fcg_partial.specs.Views.{ref_row, targets_of, names_of, refs_of, graph_of, text_of}
-use Rattle.fcg_partial.specs.Written.{AreTables, IsSmallView, collected, view_rows, written}
+use Rattle.fcg_partial.specs.SmallNumbers.{IsSmallView}
+use Rattle.fcg_partial.specs.Internal.Written.{AreTables, collected, view_rows, written}
 use Rattle.fcg_grammar.proofs.TableLaws.{table_rises}
-use Rattle.fcg_partial.proofs.SpelledViews.{collected_is, rows_are, written_is}
+use Rattle.fcg_partial.proofs.SpelledViews.{rows_are, written_is}
+use Rattle.fcg_partial.proofs.CollectedLaws.{collected_table}
 use Rattle.fcg_partial.proofs.Counts.{few_names, few_refs, few_views}
 use Rattle.fcg_partial.proofs.GraphOfViews.{names_fit, refs_fit, graph_is}
 
@@ -20,7 +22,7 @@ below a b le lt = omega arith
 module _ (vs : List View) (valid : All IsValid vs) (fits : name_count vs < 2 ^ 32) (names : List (List ℕ)) (made : names ≡ table (collected vs)) where
   names_are : names ≡ names_of vs
   unfolding names_of
-  names_are = made ∙ ap table (collected_is vs)
+  names_are = made ∙ collected_table vs
 
   pub names_rise : Rises names
   names_rise = subst Rises (sym made) (table_rises (collected vs))

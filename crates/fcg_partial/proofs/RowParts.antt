@@ -16,7 +16,7 @@ use Rattle.fcg_partial.specs.Fault.{fault, u1_at, u2_at, u4_at}
 use Rattle.fcg_partial.specs.Graph.{StoredType, StoredField, StoredMethod, StoredSite, number_at}
 use Rattle.fcg_partial.specs.Reading.{Begun, Earlier, is_above, index_at, flag_at, ref_at, kind_of, known_kind, kind_at, site_at, field_at, interface_at, some_index, super_at, method_at, type_at}
 use Rattle.fcg_partial.proofs.IndexLaws.{rows_many}
-use Rattle.fcg_partial.specs.Accessors.{super_of, IsTypeAt, IsFieldAt, IsMethodAt, IsSiteAt, IsRefAt}
+use Rattle.fcg_partial.specs.Internal.StandingRows.{super_of, IsTypeAt, IsFieldAt, IsMethodAt, IsSiteAt, IsRefAt}
 
 pub inside_u1 : (bytes : List ℕ) (at n : ℕ) → u1_at bytes at ≡ Ok n → at ≤ length bytes
 unfolding number.u1_at

@@ -12,7 +12,7 @@ use Rattle.fcg_partial.specs.Internal.NameTable.{AreNames}
 use Rattle.fcg_partial.proofs.ViewLaws.{views_back}
 
 module _ {X : Type 0} where
-  among_get : (xs : List X) (k : ℕ) (x : X) → slice_get xs k ≡ Some x → Among x xs
+  pub among_get : (xs : List X) (k : ℕ) (x : X) → slice_get xs k ≡ Some x → Among x xs
   among_get [] k x e = absurd cc
   among_get (y ∷ xs) zero x e = inl cc
   among_get (y ∷ xs) (suc k) x e = inr (among_get xs k x e)
@@ -28,7 +28,7 @@ module _ {X : Type 0} where
   index_or_get (y ∷ xs) zero x d e = cc
   index_or_get (y ∷ xs) (suc k) x d e = index_or_get xs k x d e
 
-  below_get : (xs : List X) (k : ℕ) (x : X) → slice_get xs k ≡ Some x → k < length xs
+  pub below_get : (xs : List X) (k : ℕ) (x : X) → slice_get xs k ≡ Some x → k < length xs
   below_get [] k x e = absurd cc
   below_get (y ∷ xs) zero x e = omega arith
   below_get (y ∷ xs) (suc k) x e = let lt = below_get xs k x e in omega arith

@@ -13,7 +13,7 @@ use Rattle.fcg_views.specs.declared.view.Site.{Site}
 use Rattle.fcg_partial.specs.Graph.{name_text, ref_text, site_text, field_text, method_text, type_text, super_number, spelling}
 use Rattle.fcg_partial.specs.Views.{names_of_ref, names_of_view, targets_of_method, targets_of_view, targets_of, mentions, ref_row, super_number_of, site_row, field_row, method_row, type_row, graph_by}
 use Rattle.fcg_grammar.specs.Table.{place}
-use Rattle.fcg_partial.specs.Written.{method_site_names, view_site_names, collected, method_rows, view_rows, written_site, written_field, written_method, written_name, written_head, written_members, written_type, written_tables, written}
+use Rattle.fcg_partial.specs.Internal.Written.{site_names, method_rows, view_rows, written_site, written_field, written_method, written_name, written_head, written_members, written_type, written_tables, written}
 use Rattle.fcg_partial.proofs.IndexLaws.{length_map}
 
 flat_append : {X Y : Type 0} (f : X → List Y) (xs ys : List X) → flat_map f (xs ++ ys) ≡ flat_map f xs ++ flat_map f ys
@@ -36,15 +36,21 @@ map_flat : {X Y Z : Type 0} (f : Y → Z) (g : X → List Y) (xs : List X) → m
 map_flat f g [] = refl
 map_flat f g (x ∷ xs) = ap (map f) (flat_map-cons g x xs) ∙ map_append f (g x) (flat_map g xs) ∙ ap (λ l. map f (g x) ++ l) (map_flat f g xs) ∙ sym (flat_map-cons (λ y. map f (g y)) x xs)
 
--- ---- the names
+-- ---- the names: those in the references, and then those of the types
+abbrev pub method_site_names : Method → List (List ℕ)
+method_site_names m = flat_map site_names m.sites
+
+abbrev pub view_site_names : View → List (List ℕ)
+view_site_names v = flat_map method_site_names v.methods
+
 method_names_are : (m : Method) → flat_map names_of_ref (targets_of_method m) ≡ method_site_names m
 method_names_are m = flat_of_map names_of_ref (λ (s : Site). s.target) m.sites
 
 view_names_are : (v : View) → flat_map names_of_ref (targets_of_view v) ≡ view_site_names v
 view_names_are v = flat_flat names_of_ref targets_of_method v.methods ∙ flat_like (λ (m : Method). flat_map names_of_ref (targets_of_method m)) method_site_names method_names_are v.methods
 
-pub collected_is : (views : List View) → collected views ≡ mentions views
-collected_is views = ap (λ l. l ++ flat_map names_of_view views) (sym (flat_flat names_of_ref targets_of_view views ∙ flat_like (λ (v : View). flat_map names_of_ref (targets_of_view v)) view_site_names view_names_are views))
+pub mentions_are : (views : List View) → flat_map view_site_names views ++ flat_map names_of_view views ≡ mentions views
+mentions_are views = ap (λ l. l ++ flat_map names_of_view views) (sym (flat_flat names_of_ref targets_of_view views ∙ flat_like (λ (v : View). flat_map names_of_ref (targets_of_view v)) view_site_names view_names_are views))
 
 -- ---- the rows of references
 method_rows_are : (names : List (List ℕ)) (m : Method) → map (ref_row names) (targets_of_method m) ≡ method_rows names m

@@ -1,27 +1,26 @@
--- What the accessors tell of the rows of a graph, and where a row stands in the bytes.
-use Rattle.std.specs.Prelude.{◌≡◌, ℕ, List, length, ◌==◌, slice_get, Option, Some, None, Ok, if◌then◌else◌}
+-- What the accessors answer: the rows of a graph, by their numbers.
+use Rattle.std.specs.Prelude.{◌≡◌, ◌<◌, ℕ, List, [], length, ◌==◌, slice_get, slice_index_or, Option, Some, None, IfSome}
 use Rattle.fcg_partial.specs.declared.row.TypeRow.{TypeRow}
 use Rattle.fcg_partial.specs.declared.row.FieldRow.{FieldRow}
 use Rattle.fcg_partial.specs.declared.row.MethodRow.{MethodRow}
 use Rattle.fcg_partial.specs.declared.row.SiteRow.{SiteRow}
 use Rattle.fcg_partial.specs.declared.row.RefRow.{RefRow}
 use Rattle.fcg_partial.specs.Graph.{Graph, StoredType, StoredField, StoredMethod, StoredSite, number_at}
-use Rattle.fcg_partial.specs.Reading.{Begun, Earlier, ref_at, type_at, field_at, method_at, site_at}
 
-abbrev pub type_told : StoredType → TypeRow
-type_told t = record { name = t.name; flags = t.flags; superclass = t.superclass; interfaces = length t.interfaces; fields = length t.fields; methods = length t.methods }
+abbrev pub row_of_type : StoredType → TypeRow
+row_of_type t = record { name = t.name; flags = t.flags; superclass = t.superclass; interfaces = length t.interfaces; fields = length t.fields; methods = length t.methods }
 
-abbrev pub field_told : StoredField → FieldRow
-field_told f = record { name = f.name; desc = f.desc; flags = f.flags }
+abbrev pub row_of_field : StoredField → FieldRow
+row_of_field f = record { name = f.name; desc = f.desc; flags = f.flags }
 
-abbrev pub method_told : StoredMethod → MethodRow
-method_told m = record { name = m.name; desc = m.desc; flags = m.flags; sites = length m.sites }
+abbrev pub row_of_method : StoredMethod → MethodRow
+row_of_method m = record { name = m.name; desc = m.desc; flags = m.flags; sites = length m.sites }
 
-abbrev pub site_told : StoredSite → SiteRow
-site_told s = record { pc = s.pc; kind = s.kind; reference = s.reference }
+abbrev pub row_of_site : StoredSite → SiteRow
+row_of_site s = record { pc = s.pc; kind = s.kind; reference = s.reference }
 
-abbrev pub ref_told : List ℕ → RefRow
-ref_told row = record { owner = number_at 0 row; owner_is_interface_ref = number_at 1 row == 1; name = number_at 2 row; desc = number_at 3 row }
+abbrev pub row_of_ref : List ℕ → RefRow
+row_of_ref row = record { owner = number_at 0 row; owner_is_interface_ref = number_at 1 row == 1; name = number_at 2 row; desc = number_at 3 row }
 
 -- ---- the row of a number
 abbrev pub HasType : Graph → ℕ → StoredType → Type 0
@@ -42,43 +41,30 @@ HasSite g i k s x = (m : StoredMethod) × HasMethod g i k m × (slice_get m.site
 abbrev pub HasRef : Graph → ℕ → List ℕ → Type 0
 HasRef g r row = slice_get g.refs r ≡ Some row
 
--- ---- the row that stands at a place
-pub record IsTypeAt (bytes : List ℕ) (at : ℕ) (t : StoredType) : Type 0 where
-  pub names : ℕ
-  pub refs : ℕ
-  pub number : ℕ
-  pub next : ℕ
-  pub read : type_at bytes names refs number at ≡ Ok (t, next)
+-- ---- the type of a number and a method of it; where there is none, one without rows
+abbrev pub no_type : StoredType
+no_type = record { name = 0; flags = 0; superclass = None; interfaces = []; fields = []; methods = [] }
 
-pub record IsFieldAt (bytes : List ℕ) (at : ℕ) (f : StoredField) : Type 0 where
-  pub names : ℕ
-  pub number : ℕ
-  pub next : ℕ
-  pub read : field_at bytes names number at ≡ Ok (f, next)
+abbrev pub no_method : StoredMethod
+no_method = record { name = 0; desc = 0; flags = 0; sites = [] }
 
-pub record IsMethodAt (bytes : List ℕ) (at : ℕ) (m : StoredMethod) : Type 0 where
-  pub names : ℕ
-  pub refs : ℕ
-  pub number : ℕ
-  pub state : Earlier
-  pub next : Earlier
-  pub at_is : state.at ≡ at
-  pub read : method_at bytes names refs number state ≡ Ok (m, next)
+abbrev pub type_in : Graph → ℕ → StoredType
+type_in g i = slice_index_or g.types i no_type
 
-pub record IsSiteAt (bytes : List ℕ) (at : ℕ) (s : StoredSite) : Type 0 where
-  pub refs : ℕ
-  pub number : ℕ
-  pub next : ℕ
-  pub read : site_at bytes refs number at ≡ Ok (s, next)
+abbrev pub method_in : Graph → ℕ → ℕ → StoredMethod
+method_in g i k = slice_index_or (type_in g i).methods k no_method
 
-pub record IsRefAt (bytes : List ℕ) (at : ℕ) (row : List ℕ) : Type 0 where
-  pub names : ℕ
-  pub number : ℕ
-  pub state : Begun
-  pub next : Begun
-  pub at_is : state.at ≡ at
-  pub read : ref_at bytes names number state ≡ Ok (row, next)
+-- ---- the counts of a row, and its numbers, which are below the counts of the tables
+pub record HasCountsOf (t : StoredType) (row : TypeRow) : Type 0 where
+  pub interfaces : row.interfaces ≡ length t.interfaces
+  pub fields : row.fields ≡ length t.fields
+  pub methods : row.methods ≡ length t.methods
 
--- the superclass of a number
-abbrev pub super_of : ℕ → Option ℕ
-super_of n = if n == 0xffffffff then None else Some n
+abbrev pub AreBelow : ℕ → ℕ → ℕ → Type 0
+AreBelow count m n = (m < count) × (n < count)
+
+abbrev pub IsRowBelow : Graph → RefRow → Type 0
+IsRowBelow g row = (row.owner < length g.names) × (row.name < length g.names) × (row.desc < length g.names)
+
+abbrev pub IsSuperBelow : Graph → TypeRow → Type 0
+IsSuperBelow g row = IfSome row.superclass (λ n. n < length g.names)

@@ -4,7 +4,8 @@ ghost use Rattle.fcg_partial.specs.Fault.{fault};
 
 use fcg_grammar::ReadError;
 
-/// A rule of stored graphs that bytes break.
+/// A rule that bytes break: of stored graphs, and of the records of a keeper that hold them. A stored graph breaks only
+/// those up to `Unused`.
 #[derive(Clone, Copy, Debug, PartialEq, Eq)]
 pub enum RecordRule {
     /// The first four bytes aren't `FCGR`.
@@ -27,6 +28,17 @@ pub enum RecordRule {
     Trailing,
     /// A name or a reference isn't used.
     Unused,
+    /// The text of a record's coordinate is none.
+    Coordinate,
+    /// An earlier record has the request number.
+    Number,
+    /// The coordinate of a withdrawal isn't live.
+    Withdraw,
+    /// There are more than 1,000,000 records, or more than 1,073,741,824 bytes of records in sum, or a record's graph has
+    /// more than 67,108,864 bytes.
+    Limit,
+    /// The kind of a record is neither that of an import nor that of a withdrawal.
+    Command,
 }
 
 /// The first rule that is broken, in the order in which a stored graph is read.
@@ -55,5 +67,15 @@ impl From<RecordFault> for ReadError<RecordFault> {
 
     fn from(fault: RecordFault) -> ReadError<RecordFault> {
         ReadError::Fault(fault)
+    }
+}
+
+impl From<RecordRule> for ReadError<RecordRule> {
+    ghost use Rattle.fcg_grammar.specs.declared.error.ReadError.TheVariants as errors;
+
+    ghost from_gives = { λ rule e. e ≡ errors.Fault rule };
+
+    fn from(rule: RecordRule) -> ReadError<RecordRule> {
+        ReadError::Fault(rule)
     }
 }

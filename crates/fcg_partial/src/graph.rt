@@ -2,23 +2,27 @@
 ghost use Rattle.std.specs.Prelude.{◌≡◌, ◌↔◌, ◌<◌, ◌^◌, ℕ, List, All, length, slice_get, Some, Ok, IfOk, IsTrue};
 ghost use Rattle.fcg_grammar.specs.Reading.{seen, Gives};
 ghost use Rattle.fcg_grammar.specs.Spell.{IsBytes};
+ghost use Rattle.fcg_grammar.specs.Table.{table};
 ghost use Rattle.fcg_partial.specs.Graph.{Graph, StoredType, StoredField, StoredMethod, StoredSite, IsGraph, spelling};
 ghost use Rattle.fcg_views.specs.Valid.{IsValid, name_count};
 ghost use Rattle.fcg_partial.specs.Views.{shown, graph_of, text_of};
 ghost use Rattle.fcg_partial.specs.Reading.{graph_at};
 ghost use Rattle.fcg_partial.specs.Internal.RowPlaces.{text_at, HasText};
-ghost use Rattle.fcg_partial.specs.Accessors.{type_told, field_told, method_told, site_told, ref_told, HasType, HasInterface, HasField, HasMethod, HasSite, HasRef, IsTypeAt, IsMethodAt, IsRefAt};
+ghost use Rattle.fcg_partial.specs.Accessors.{row_of_type, row_of_field, row_of_method, row_of_site, row_of_ref, HasType, HasInterface, HasField, HasMethod, HasSite, HasRef, type_in, method_in, HasCountsOf, AreBelow, IsRowBelow, IsSuperBelow};
+ghost use Rattle.fcg_partial.specs.Internal.Written.{collected};
+ghost use Rattle.fcg_partial.specs.Internal.StandingRows.{IsTypeAt, IsMethodAt, IsRefAt};
+ghost use Rattle.fcg_partial.specs.Sizes.{HasAtMost};
 
 use crate::fault::RecordFault;
 use crate::index::{Index, find_rows};
-use crate::intern::{make_name_table, make_ref_table};
+use crate::intern::{Hints, collect_names, make_hints, make_name_table, make_ref_table};
 use crate::row::{
     FieldRow, MethodRow, RefRow, SiteRow, TypeRow, find_fields, load_field, load_method, load_ref,
     load_site, load_type, load_u4,
 };
 use crate::write::write_graph;
 use fcg_grammar::ReadError;
-use fcg_views::{Bytes, NoMemory, View, Views};
+use fcg_views::{Bytes, Name, NoMemory, View, Views};
 use std::alloc::{AllocError, Global};
 use std::marker::Model;
 
@@ -50,6 +54,24 @@ fn tell_bytes(bytes: &[u8])
     ensures { IsBytes bytes.now }
 {}
 
+// The bytes that spell the views, by the table of their names.
+fn write_views(
+    alloc: Global,
+    views: &[View],
+    names: &[Name],
+    mut hints: Hints,
+) -> Result<Vec<u8>, AllocError>
+    requires fits { name_count views.now < 2 ^ 32 }
+    requires valid { All IsValid views.now }
+    requires names { names.now ≡ table (collected views.now) }
+    ensures text { IfOk result (λ out. out.items ≡ text_of views.now) }
+    ensures graph { IfOk result (λ out. IsGraph (graph_of views.now)) }
+{
+    let refs = make_ref_table(alloc, names, views, &mut hints)?;
+    hints.restart();
+    write_graph(alloc, names, refs.as_slice(), views, &mut hints)
+}
+
 // The bytes that spell the views.
 fn spell_views(alloc: Global, views: &[View]) -> Result<Vec<u8>, AllocError>
     requires fits { name_count views.now < 2 ^ 32 }
@@ -57,10 +79,10 @@ fn spell_views(alloc: Global, views: &[View]) -> Result<Vec<u8>, AllocError>
     ensures text { IfOk result (λ out. out.items ≡ text_of views.now) }
     ensures graph { IfOk result (λ out. IsGraph (graph_of views.now)) }
 {
-    let names = make_name_table(alloc, views)?;
-    let refs = make_ref_table(alloc, &names, views)?;
-    let out = write_graph(alloc, &names, &refs, views)?;
-    Ok(out)
+    let mentions = collect_names(alloc, views)?;
+    let names = make_name_table(alloc, &mentions)?;
+    let hints = make_hints(alloc, names.as_slice(), mentions)?;
+    write_views(alloc, views, names.as_slice(), hints)
 }
 
 impl Model for PartialGraph {
@@ -133,9 +155,10 @@ impl PartialGraph {
         self.bytes.as_slice()
     }
 
-    /// How many bytes spell it. Takes no memory.
+    /// How many bytes spell it. It has at most so many names, references, types, methods and sites. Takes no memory.
     pub fn encoded_len(&self) -> u64
-        ensures { result ≡ length (text_of self.now) }
+        ensures long { result ≡ length (text_of self.now) }
+        ensures few { HasAtMost result self.now }
     {
         self.bytes.len() as u64
     }
@@ -155,9 +178,13 @@ impl PartialGraph {
         self.bytes.as_slice() == other.bytes.as_slice()
     }
 
-    // Tells that the graph is well formed, for proofs; it does nothing.
-    pub(crate) fn tell_graph(&self)
-        ensures { IsGraph (graph_of self.now) }
+    /// Tells of the graph, for proofs, that it is well formed, that its views are valid and fit, and that it has at most
+    /// as much as its spelling has bytes. It does nothing.
+    pub fn tell_graph(&self)
+        ensures graph { IsGraph (graph_of self.now) }
+        ensures valid { All IsValid self.now }
+        ensures fits { name_count self.now < 2 ^ 32 }
+        ensures few { HasAtMost (length (text_of self.now)) self.now }
     {
         let _bytes = self.bytes.as_slice();
     }
@@ -214,9 +241,11 @@ impl PartialGraph {
 
     /// The reference of a number below `ref_count`. Takes no memory.
     pub fn ref_at(&self, r: u32) -> RefRow
-        requires { (row : List ℕ) × HasRef (graph_of self.now) r row }
-        ensures { (row : List ℕ) → HasRef (graph_of self.now) r row → result ≡ ref_told row }
+        requires { r < length (graph_of self.now).refs }
+        ensures row { (row : List ℕ) → HasRef (graph_of self.now) r row → result ≡ row_of_ref row }
+        ensures below { IsRowBelow (graph_of self.now) result }
     {
+        self.tell_graph();
         load_ref(self.as_bytes(), self.ref_place(r))
     }
 
@@ -229,17 +258,23 @@ impl PartialGraph {
 
     /// The type of a number below `type_count`, in the order of the views. Takes no memory.
     pub fn type_at(&self, i: u32) -> TypeRow
-        requires { (t : StoredType) × HasType (graph_of self.now) i t }
-        ensures { (t : StoredType) → HasType (graph_of self.now) i t → result ≡ type_told t }
+        requires { i < length (graph_of self.now).types }
+        ensures row { (t : StoredType) → HasType (graph_of self.now) i t → result ≡ row_of_type t }
+        ensures counts { HasCountsOf (type_in (graph_of self.now) i) result }
+        ensures name { result.name < length (graph_of self.now).names }
+        ensures superclass { IsSuperBelow (graph_of self.now) result }
     {
+        self.tell_graph();
         load_type(self.as_bytes(), self.type_place(i))
     }
 
     /// The name of an interface of a type, by its place below the type's count of interfaces. Takes no memory.
     pub fn interface_at(&self, i: u32, j: u16) -> u32
-        requires { (n : ℕ) × HasInterface (graph_of self.now) i j n }
-        ensures { (n : ℕ) → HasInterface (graph_of self.now) i j n → result ≡ n }
+        requires { j < length (type_in (graph_of self.now) i).interfaces }
+        ensures row { (n : ℕ) → HasInterface (graph_of self.now) i j n → result ≡ n }
+        ensures below { result < length (graph_of self.now).names }
     {
+        self.tell_graph();
         load_u4(
             self.as_bytes(),
             self.type_place(i) + 12 + 4 * usize::from(j),
@@ -248,9 +283,11 @@ impl PartialGraph {
 
     /// A field of a type, by its place below the type's count of fields. Takes no memory.
     pub fn field_at(&self, i: u32, j: u16) -> FieldRow
-        requires { (f : StoredField) × HasField (graph_of self.now) i j f }
-        ensures { (f : StoredField) → HasField (graph_of self.now) i j f → result ≡ field_told f }
+        requires { j < length (type_in (graph_of self.now) i).fields }
+        ensures row { (f : StoredField) → HasField (graph_of self.now) i j f → result ≡ row_of_field f }
+        ensures below { AreBelow (length (graph_of self.now).names) result.name result.desc }
     {
+        self.tell_graph();
         let bytes = self.as_bytes();
         let fields = find_fields(bytes, self.type_place(i));
         load_field(bytes, fields + 2 + 10 * usize::from(j))
@@ -258,17 +295,22 @@ impl PartialGraph {
 
     /// A method of a type, by its place below the type's count of methods. Takes no memory.
     pub fn method_at(&self, i: u32, k: u16) -> MethodRow
-        requires { (m : StoredMethod) × HasMethod (graph_of self.now) i k m }
-        ensures { (m : StoredMethod) → HasMethod (graph_of self.now) i k m → result ≡ method_told m }
+        requires { k < length (type_in (graph_of self.now) i).methods }
+        ensures row { (m : StoredMethod) → HasMethod (graph_of self.now) i k m → result ≡ row_of_method m }
+        ensures sites { result.sites ≡ length (method_in (graph_of self.now) i k).sites }
+        ensures below { AreBelow (length (graph_of self.now).names) result.name result.desc }
     {
+        self.tell_graph();
         load_method(self.as_bytes(), self.method_place(i, k))
     }
 
     /// A site of a method, by its place below the method's count of sites. Takes no memory.
     pub fn site_at(&self, i: u32, k: u16, s: u32) -> SiteRow
-        requires { (x : StoredSite) × HasSite (graph_of self.now) i k s x }
-        ensures { (x : StoredSite) → HasSite (graph_of self.now) i k s x → result ≡ site_told x }
+        requires { s < length (method_in (graph_of self.now) i k).sites }
+        ensures row { (x : StoredSite) → HasSite (graph_of self.now) i k s x → result ≡ row_of_site x }
+        ensures below { result.reference < length (graph_of self.now).refs }
     {
+        self.tell_graph();
         load_site(
             self.as_bytes(),
             self.method_place(i, k) + 14 + 7 * s as usize,

@@ -1,27 +1,29 @@
 //! The tables of names and of references of some views.
-ghost use Rattle.std.specs.Prelude.{◌≡◌, ◌<◌, ◌^◌, ◌++◌, length, OnOk, IfOk};
+ghost use Rattle.std.specs.Prelude.{◌≡◌, ◌<◌, ◌^◌, ◌++◌, ◌∷◌, [], length, OnOk, IfOk, IsTrue};
 ghost use Rattle.std.specs.List.{flat_map};
 ghost use Rattle.fcg_grammar.specs.Table.{table, place, Rises};
-ghost use Rattle.fcg_partial.specs.Views.{names_of_ref, names_of_field, names_of_method, names_of_super, names_of_view, ref_row};
-ghost use Rattle.fcg_partial.specs.Written.{site_names, method_site_names, view_site_names, collected, site_rows, method_rows, view_rows};
+ghost use Rattle.fcg_partial.specs.Views.{names_of_ref, names_of_field, names_of_super, ref_row};
+ghost use Rattle.fcg_partial.specs.Internal.Written.{site_names, site_rows, method_rows, view_rows, collected_of_method, collected_of_view, collected};
+ghost use Rattle.fcg_partial.specs.Internal.Mentions.{IsTextOf};
 
+use crate::mentions::Mentions;
 use fcg_views::{Field, Method, Name, Ref, Site, View};
 use std::alloc::{AllocError, Global};
 
 // The rows of a reference: the numbers of its owner, of its interface, of its name and of its descriptor.
 pub(crate) type RefRow4 = [u32; 4];
 
-fn push_ref_names(names: &mut Vec<Name>, target: &Ref) -> Result<(), AllocError>
-    ensures { OnOk result (names.new.items ≡ names.old.items ++ names_of_ref target.now) }
+fn push_ref_names(names: &mut Mentions, target: &Ref) -> Result<(), AllocError>
+    ensures { OnOk result (names.new ≡ names.old ++ names_of_ref target.now) }
 {
-    names.push(target.owner.clone()?)?;
-    names.push(target.name.clone()?)?;
-    names.push(target.desc.clone()?)?;
+    names.push(&target.owner)?;
+    names.push(&target.name)?;
+    names.push(&target.desc)?;
     Ok(())
 }
 
-fn push_site_names(names: &mut Vec<Name>, sites: &[Site]) -> Result<(), AllocError>
-    ensures { OnOk result (names.new.items ≡ names.old.items ++ flat_map site_names sites.now) }
+fn push_site_names(names: &mut Mentions, sites: &[Site]) -> Result<(), AllocError>
+    ensures { OnOk result (names.new ≡ names.old ++ flat_map site_names sites.now) }
 {
     for site in sites {
         push_ref_names(names, &site.target)?;
@@ -29,74 +31,64 @@ fn push_site_names(names: &mut Vec<Name>, sites: &[Site]) -> Result<(), AllocErr
     Ok(())
 }
 
-fn push_method_site_names(names: &mut Vec<Name>, methods: &[Method]) -> Result<(), AllocError>
-    ensures { OnOk result (names.new.items ≡ names.old.items ++ flat_map method_site_names methods.now) }
-{
-    for method in methods {
-        push_site_names(names, method.sites.as_slice())?;
-    }
-    Ok(())
-}
-
-fn push_view_site_names(names: &mut Vec<Name>, views: &[View]) -> Result<(), AllocError>
-    ensures { OnOk result (names.new.items ≡ names.old.items ++ flat_map view_site_names views.now) }
-{
-    for view in views {
-        push_method_site_names(names, view.methods.as_slice())?;
-    }
-    Ok(())
-}
-
-fn push_superclass(names: &mut Vec<Name>, superclass: &Option<Name>) -> Result<(), AllocError>
-    ensures { OnOk result (names.new.items ≡ names.old.items ++ names_of_super superclass.now) }
+fn push_superclass(names: &mut Mentions, superclass: &Option<Name>) -> Result<(), AllocError>
+    ensures { OnOk result (names.new ≡ names.old ++ names_of_super superclass.now) }
 {
     if let Some(name) = superclass {
-        names.push(name.clone()?)?;
+        names.push(name)?;
     }
     Ok(())
 }
 
-fn push_interfaces(names: &mut Vec<Name>, interfaces: &[Name]) -> Result<(), AllocError>
-    ensures { OnOk result (names.new.items ≡ names.old.items ++ interfaces.now) }
+fn push_interfaces(names: &mut Mentions, interfaces: &[Name]) -> Result<(), AllocError>
+    ensures { OnOk result (names.new ≡ names.old ++ interfaces.now) }
 {
     for name in interfaces {
-        names.push(name.clone()?)?;
+        names.push(name)?;
     }
     Ok(())
 }
 
-fn push_field_names(names: &mut Vec<Name>, fields: &[Field]) -> Result<(), AllocError>
-    ensures { OnOk result (names.new.items ≡ names.old.items ++ flat_map names_of_field fields.now) }
+fn push_field_names(names: &mut Mentions, fields: &[Field]) -> Result<(), AllocError>
+    ensures { OnOk result (names.new ≡ names.old ++ flat_map names_of_field fields.now) }
 {
     for field in fields {
-        names.push(field.name.clone()?)?;
-        names.push(field.desc.clone()?)?;
+        names.push(&field.name)?;
+        names.push(&field.desc)?;
     }
     Ok(())
 }
 
-fn push_method_names(names: &mut Vec<Name>, methods: &[Method]) -> Result<(), AllocError>
-    ensures { OnOk result (names.new.items ≡ names.old.items ++ flat_map names_of_method methods.now) }
+fn push_method_names(names: &mut Mentions, method: &Method) -> Result<(), AllocError>
+    ensures { OnOk result (names.new ≡ names.old ++ collected_of_method method.now) }
+{
+    names.push(&method.name)?;
+    names.push(&method.desc)?;
+    push_site_names(names, method.sites.as_slice())
+}
+
+fn push_methods_names(names: &mut Mentions, methods: &[Method]) -> Result<(), AllocError>
+    ensures { OnOk result (names.new ≡ names.old ++ flat_map collected_of_method methods.now) }
 {
     for method in methods {
-        names.push(method.name.clone()?)?;
-        names.push(method.desc.clone()?)?;
+        push_method_names(names, method)?;
     }
     Ok(())
 }
 
-fn push_view_names(names: &mut Vec<Name>, view: &View) -> Result<(), AllocError>
-    ensures { OnOk result (names.new.items ≡ names.old.items ++ names_of_view view.now) }
+fn push_view_names(names: &mut Mentions, view: &View) -> Result<(), AllocError>
+    ensures { OnOk result (names.new ≡ names.old ++ collected_of_view view.now) }
 {
-    names.push(view.name.clone()?)?;
+    names.forget_places();
+    names.push(&view.name)?;
     push_superclass(names, &view.superclass)?;
     push_interfaces(names, view.interfaces.as_slice())?;
     push_field_names(names, view.fields.as_slice())?;
-    push_method_names(names, view.methods.as_slice())
+    push_methods_names(names, view.methods.as_slice())
 }
 
-fn push_names(names: &mut Vec<Name>, views: &[View]) -> Result<(), AllocError>
-    ensures { OnOk result (names.new.items ≡ names.old.items ++ flat_map names_of_view views.now) }
+fn push_names(names: &mut Mentions, views: &[View]) -> Result<(), AllocError>
+    ensures { OnOk result (names.new ≡ names.old ++ collected views.now) }
 {
     for view in views {
         push_view_names(names, view)?;
@@ -104,12 +96,11 @@ fn push_names(names: &mut Vec<Name>, views: &[View]) -> Result<(), AllocError>
     Ok(())
 }
 
-// The names in the views, each as often as it stands: first those of the references.
-fn collect_names(alloc: Global, views: &[View]) -> Result<Vec<Name>, AllocError>
-    ensures { IfOk result (λ names. names.items ≡ collected views.now) }
+// The names in the views, each as often as it stands, in the order in which the types are written.
+pub(crate) fn collect_names(alloc: Global, views: &[View]) -> Result<Mentions, AllocError>
+    ensures { IfOk result (λ names. names ≡ collected views.now) }
 {
-    let mut names = Vec::new(alloc);
-    push_view_site_names(&mut names, views)?;
+    let mut names = Mentions::new(alloc);
     push_names(&mut names, views)?;
     Ok(names)
 }
@@ -123,43 +114,117 @@ fn sort_names(mut names: Vec<Name>) -> Vec<Name>
     names
 }
 
-// The table of the names in the views. Sorts the names.
-pub(crate) fn make_name_table(alloc: Global, views: &[View]) -> Result<Vec<Name>, AllocError>
-    ensures { IfOk result (λ names. names.items ≡ table (collected views.now)) }
-{
-    Ok(sort_names(collect_names(alloc, views)?))
+// For each name of the views, in the order in which the types are written, the number that it probably has. A number is
+// compared before it is used, so nothing is said of them.
+#[derive(Drop)]
+pub(crate) struct Hints {
+    numbers: Vec<u32>,
+    next: usize,
 }
 
-// The number of a name, by a search in the table; the number past its end for a name that isn't there.
-pub(crate) fn number_of(names: &[Name], name: &Name) -> u32
+impl Hints {
+    // The number that the next name probably has.
+    pub(crate) fn next(&mut self) -> u32 {
+        let number = self.numbers.get(self.next).copied().unwrap_or(0);
+        self.skip(1);
+        number
+    }
+
+    // Passes so many names over.
+    fn skip(&mut self, count: usize) {
+        self.next = self.next.saturating_add(count);
+    }
+
+    // Begins with the first name again.
+    pub(crate) fn restart(&mut self) {
+        self.next = 0;
+    }
+}
+
+// The numbers of texts in the table.
+fn number_texts(alloc: Global, names: &[Name], texts: &[Name]) -> Result<Vec<u32>, AllocError>
+    requires rises { Rises names.now }
+    requires few { length names.now < 2 ^ 32 }
+{
+    let mut numbers = Vec::with_capacity(alloc, texts.len())?;
+    for text in texts {
+        numbers.push(number_of(names, text, u32::MAX))?;
+    }
+    Ok(numbers)
+}
+
+// The table of the names in the views.
+pub(crate) fn make_name_table(alloc: Global, mentions: &Mentions) -> Result<Vec<Name>, AllocError>
+    ensures { IfOk result (λ names. names.items ≡ table mentions.now) }
+{
+    Ok(sort_names(mentions.copy_texts(alloc)?))
+}
+
+// The numbers in the table of the names that were collected.
+pub(crate) fn make_hints(
+    alloc: Global,
+    names: &[Name],
+    mentions: Mentions,
+) -> Result<Hints, AllocError>
+    requires rises { Rises names.now }
+    requires few { length names.now < 2 ^ 32 }
+{
+    let numbers = number_texts(alloc, names, mentions.texts())?;
+    Ok(Hints {
+        numbers: mentions.renumbered(&numbers),
+        next: 0,
+    })
+}
+
+// Whether a text of a list is the name.
+pub(crate) fn is_text(texts: &[Name], number: u32, name: &Name) -> bool
+    ensures { IsTrue result → IsTextOf texts.now number name.now }
+{
+    match texts.get(number as usize) {
+        Some(text) => text == name,
+        None => false,
+    }
+}
+
+// The number of a name: the one that it probably has, or else by a search in the table; the number past its end for a
+// name that isn't there.
+pub(crate) fn number_of(names: &[Name], name: &Name, hint: u32) -> u32
     requires rises { Rises names.now }
     requires few { length names.now < 2 ^ 32 }
     ensures { result ≡ place names.now name.now }
 {
+    if is_text(names, hint, name) {
+        return hint;
+    }
     names.binary_search(name).unwrap_or(names.len()) as u32
 }
 
 // The row of a reference.
-pub(crate) fn make_row(names: &[Name], target: &Ref) -> RefRow4
+pub(crate) fn make_row(names: &[Name], target: &Ref, hints: &mut Hints) -> RefRow4
     requires rises { Rises names.now }
     requires few { length names.now < 2 ^ 32 }
     ensures { result ≡ ref_row names.now target.now }
 {
     [
-        number_of(names, &target.owner),
+        number_of(names, &target.owner, hints.next()),
         u32::from(target.owner_is_interface_ref),
-        number_of(names, &target.name),
-        number_of(names, &target.desc),
+        number_of(names, &target.name, hints.next()),
+        number_of(names, &target.desc, hints.next()),
     ]
 }
 
-fn push_site_rows(rows: &mut Vec<RefRow4>, names: &[Name], sites: &[Site]) -> Result<(), AllocError>
+fn push_site_rows(
+    rows: &mut Vec<RefRow4>,
+    names: &[Name],
+    sites: &[Site],
+    hints: &mut Hints,
+) -> Result<(), AllocError>
     requires rises { Rises names.now }
     requires few { length names.now < 2 ^ 32 }
     ensures { OnOk result (rows.new.items ≡ rows.old.items ++ flat_map (site_rows names.now) sites.now) }
 {
     for site in sites {
-        rows.push(make_row(names, &site.target))?;
+        rows.push(make_row(names, &site.target, hints))?;
     }
     Ok(())
 }
@@ -168,27 +233,46 @@ fn push_method_rows(
     rows: &mut Vec<RefRow4>,
     names: &[Name],
     methods: &[Method],
+    hints: &mut Hints,
 ) -> Result<(), AllocError>
     requires rises { Rises names.now }
     requires few { length names.now < 2 ^ 32 }
     ensures { OnOk result (rows.new.items ≡ rows.old.items ++ flat_map (method_rows names.now) methods.now) }
 {
     for method in methods {
-        push_site_rows(rows, names, method.sites.as_slice())?;
+        hints.skip(2);
+        push_site_rows(rows, names, method.sites.as_slice(), hints)?;
     }
     Ok(())
 }
 
-fn collect_rows(alloc: Global, names: &[Name], views: &[View]) -> Result<Vec<RefRow4>, AllocError>
+fn collect_rows(
+    alloc: Global,
+    names: &[Name],
+    views: &[View],
+    hints: &mut Hints,
+) -> Result<Vec<RefRow4>, AllocError>
     requires rises { Rises names.now }
     requires few { length names.now < 2 ^ 32 }
     ensures { IfOk result (λ rows. rows.items ≡ flat_map (view_rows names.now) views.now) }
 {
     let mut rows = Vec::new(alloc);
     for view in views {
-        push_method_rows(&mut rows, names, view.methods.as_slice())?;
+        hints.skip(count_own_names(view));
+        push_method_rows(&mut rows, names, view.methods.as_slice(), hints)?;
     }
     Ok(rows)
+}
+
+// How many names stand in a view before those of its methods.
+fn count_own_names(view: &View) -> usize {
+    let interfaces = view.interfaces.as_slice().len();
+    let fields = view.fields.as_slice().len();
+    let superclass = if view.superclass.is_some() { 1 } else { 0 };
+    fields
+        .saturating_mul(2)
+        .saturating_add(interfaces)
+        .saturating_add(1 + superclass)
 }
 
 // Each reference once, in their order.
@@ -200,18 +284,18 @@ fn sort_rows(mut rows: Vec<RefRow4>) -> Vec<RefRow4>
     rows
 }
 
-// The table of the references in the views. Sorts them, and takes a logarithm of the number of the names in comparisons
-// for each of them.
+// The table of the references in the views. Sorts them.
 pub(crate) fn make_ref_table(
     alloc: Global,
     names: &[Name],
     views: &[View],
+    hints: &mut Hints,
 ) -> Result<Vec<RefRow4>, AllocError>
     requires rises { Rises names.now }
     requires few { length names.now < 2 ^ 32 }
     ensures { IfOk result (λ rows. rows.items ≡ table (flat_map (view_rows names.now) views.now)) }
 {
-    Ok(sort_rows(collect_rows(alloc, names, views)?))
+    Ok(sort_rows(collect_rows(alloc, names, views, hints)?))
 }
 
 // The number of a reference, by a search in the table; the number past its end for one that isn't there.

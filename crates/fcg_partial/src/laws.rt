@@ -1,12 +1,13 @@
 //! Laws of stored graphs.
-ghost use Rattle.std.specs.Prelude.{◌≡◌, ◌<◌, ◌^◌, ℕ, List, All, Ok};
+ghost use Rattle.std.specs.Prelude.{◌≡◌, ◌<◌, ◌^◌, ℕ, List, All, Ok, length};
 ghost use Rattle.fcg_grammar.specs.Spell.{IsBytes};
 ghost use Rattle.fcg_views.specs.declared.view.View.{View};
 ghost use Rattle.fcg_views.specs.Valid.{IsValid, name_count};
-ghost use Rattle.fcg_partial.specs.Written.{IsSmallView};
+ghost use Rattle.fcg_partial.specs.SmallNumbers.{IsSmallView};
 ghost use Rattle.fcg_partial.specs.Graph.{Graph, IsGraph, spelling};
-ghost use Rattle.fcg_partial.specs.Views.{shown, graph_of};
+ghost use Rattle.fcg_partial.specs.Views.{shown, graph_of, text_of};
 ghost use Rattle.fcg_partial.specs.Reading.{graph_at};
+ghost use Rattle.fcg_partial.specs.Sizes.{HasAtMost};
 
 /// A string of bytes is read as a graph exactly where it is the spelling of that graph, and the graph is well formed.
 pub fn reading_is_exact()
@@ -20,4 +21,11 @@ pub fn one_graph_each()
     ensures views { (views : List View) → shown (graph_of views) ≡ views }
     ensures formed { (views : List View) → All IsValid views → All IsSmallView views → name_count views < 2 ^ 32 → IsGraph (graph_of views) }
     ensures graphs { (g : Graph) → IsGraph g → graph_of (shown g) ≡ g }
+{}
+
+/// A graph that is well formed shows valid views. What it has is at most as many as its spelling has bytes: so the views
+/// of a graph of fewer than 2^32 bytes fit.
+pub fn graphs_show_valid_views()
+    ensures valid { (g : Graph) → IsGraph g → All IsValid (shown g) }
+    ensures few { (views : List View) → HasAtMost (length (text_of views)) views }
 {}

@@ -10,6 +10,7 @@ mod index;
 mod intern;
 mod laws;
 mod marks;
+mod mentions;
 mod methods;
 mod names;
 mod number;
@@ -22,5 +23,5 @@ mod write;
 
 pub use fault::{RecordFault, RecordRule};
 pub use graph::PartialGraph;
-pub use laws::{one_graph_each, reading_is_exact};
+pub use laws::{graphs_show_valid_views, one_graph_each, reading_is_exact};
 pub use row::{FieldRow, MethodRow, RefRow, SiteRow, TypeRow};

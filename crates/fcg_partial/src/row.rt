@@ -2,7 +2,8 @@
 ghost use Rattle.std.specs.Prelude.{◌≡◌, ◌<◌, ◌≤◌, ◌+◌, ◌*◌, ◌^◌, ℕ, List, length, Ok};
 ghost use Rattle.fcg_partial.specs.Fault.{u1_at, u2_at, u4_at};
 ghost use Rattle.fcg_partial.specs.Graph.{StoredType, StoredField, StoredMethod, StoredSite};
-ghost use Rattle.fcg_partial.specs.Accessors.{super_of, type_told, field_told, method_told, site_told, ref_told, IsTypeAt, IsFieldAt, IsMethodAt, IsSiteAt, IsRefAt};
+ghost use Rattle.fcg_partial.specs.Accessors.{row_of_type, row_of_field, row_of_method, row_of_site, row_of_ref};
+ghost use Rattle.fcg_partial.specs.Internal.StandingRows.{super_of, IsTypeAt, IsFieldAt, IsMethodAt, IsSiteAt, IsRefAt};
 
 use crate::number::{read_u1, read_u2, read_u4};
 use crate::rows::{NO_SUPERCLASS, kind_of};
@@ -113,7 +114,7 @@ fn find_methods(bytes: &[u8], fields: usize) -> usize
 pub(crate) fn load_type(bytes: &[u8], at: usize) -> TypeRow
     requires small { at < 2 ^ 32 }
     requires there { (t : StoredType) × IsTypeAt bytes.now at t }
-    ensures { (t : StoredType) → IsTypeAt bytes.now at t → result ≡ type_told t }
+    ensures { (t : StoredType) → IsTypeAt bytes.now at t → result ≡ row_of_type t }
 {
     let fields = find_fields(bytes, at);
     let methods = find_methods(bytes, fields);
@@ -131,7 +132,7 @@ pub(crate) fn load_type(bytes: &[u8], at: usize) -> TypeRow
 pub(crate) fn load_field(bytes: &[u8], at: usize) -> FieldRow
     requires small { at < 2 ^ 34 }
     requires there { (f : StoredField) × IsFieldAt bytes.now at f }
-    ensures { (f : StoredField) → IsFieldAt bytes.now at f → result ≡ field_told f }
+    ensures { (f : StoredField) → IsFieldAt bytes.now at f → result ≡ row_of_field f }
 {
     FieldRow {
         name: load_u4(bytes, at),
@@ -144,7 +145,7 @@ pub(crate) fn load_field(bytes: &[u8], at: usize) -> FieldRow
 pub(crate) fn load_method(bytes: &[u8], at: usize) -> MethodRow
     requires small { at < 2 ^ 32 }
     requires there { (m : StoredMethod) × IsMethodAt bytes.now at m }
-    ensures { (m : StoredMethod) → IsMethodAt bytes.now at m → result ≡ method_told m }
+    ensures { (m : StoredMethod) → IsMethodAt bytes.now at m → result ≡ row_of_method m }
 {
     MethodRow {
         name: load_u4(bytes, at),
@@ -158,7 +159,7 @@ pub(crate) fn load_method(bytes: &[u8], at: usize) -> MethodRow
 pub(crate) fn load_site(bytes: &[u8], at: usize) -> SiteRow
     requires small { at < 2 ^ 36 }
     requires there { (s : StoredSite) × IsSiteAt bytes.now at s }
-    ensures { (s : StoredSite) → IsSiteAt bytes.now at s → result ≡ site_told s }
+    ensures { (s : StoredSite) → IsSiteAt bytes.now at s → result ≡ row_of_site s }
 {
     SiteRow {
         pc: load_u2(bytes, at),
@@ -171,7 +172,7 @@ pub(crate) fn load_site(bytes: &[u8], at: usize) -> SiteRow
 pub(crate) fn load_ref(bytes: &[u8], at: usize) -> RefRow
     requires small { at < 2 ^ 37 }
     requires there { (row : List ℕ) × IsRefAt bytes.now at row }
-    ensures { (row : List ℕ) → IsRefAt bytes.now at row → result ≡ ref_told row }
+    ensures { (row : List ℕ) → IsRefAt bytes.now at row → result ≡ row_of_ref row }
 {
     RefRow {
         owner: load_u4(bytes, at),

@@ -5,10 +5,11 @@ ghost use Rattle.fcg_grammar.specs.Spell.{u2, u4};
 ghost use Rattle.fcg_grammar.specs.Table.{place, Rises};
 ghost use Rattle.fcg_partial.specs.Graph.{kind_number, name_text, ref_text, super_number, FitsName, FitsRef};
 ghost use Rattle.fcg_partial.specs.Views.{super_number_of};
-ghost use Rattle.fcg_partial.specs.Written.{AreTables, HasCounts, HasFewSites, IsSmallSite, IsSmallField, IsSmallMethod, IsSmallView, written_site, written_field, written_method, written_name, written_head, written_members, written_type, written_tables, written};
+ghost use Rattle.fcg_partial.specs.SmallNumbers.{IsSmallSite, IsSmallField, IsSmallMethod, IsSmallView};
+ghost use Rattle.fcg_partial.specs.Internal.Written.{AreTables, HasCounts, HasFewSites, written_site, written_field, written_method, written_name, written_head, written_members, written_type, written_tables, written};
 
 use crate::index::MAGIC;
-use crate::intern::{RefRow4, make_row, number_of, ref_number_of};
+use crate::intern::{Hints, RefRow4, make_row, number_of, ref_number_of};
 use crate::rows::NO_SUPERCLASS;
 use fcg_views::{Field, HandleKind, Method, Name, Site, SiteKind, View};
 use std::alloc::{AllocError, Global};
@@ -66,7 +67,7 @@ fn push_ref_rows(out: &mut Vec<u8>, refs: &[RefRow4]) -> Result<(), AllocError>
 }
 
 // The magic number, the version and the tables.
-#[tactic(auto, unfolding(crate::specs::Written::written_tables))]
+#[tactic(auto, unfolding(crate::specs::Internal::Written::written_tables))]
 fn push_tables(out: &mut Vec<u8>, names: &[Name], refs: &[RefRow4]) -> Result<(), AllocError>
     requires tables { AreTables names.now refs.now }
     requires names { All FitsName names.now }
@@ -105,6 +106,7 @@ fn push_site(
     names: &[Name],
     refs: &[RefRow4],
     site: &Site,
+    hints: &mut Hints,
 ) -> Result<(), AllocError>
     requires { AreTables names.now refs.now }
     ensures text { OnOk result (out.new.items ≡ out.old.items ++ written_site names.now refs.now site.now) }
@@ -112,7 +114,10 @@ fn push_site(
 {
     push_u2(out, site.pc)?;
     out.push(byte_of(site.kind))?;
-    push_u4(out, ref_number_of(refs, &make_row(names, &site.target)))
+    push_u4(
+        out,
+        ref_number_of(refs, &make_row(names, &site.target, hints)),
+    )
 }
 
 fn push_sites(
@@ -120,23 +125,25 @@ fn push_sites(
     names: &[Name],
     refs: &[RefRow4],
     sites: &[Site],
+    hints: &mut Hints,
 ) -> Result<(), AllocError>
     requires { AreTables names.now refs.now }
     ensures text { OnOk result (out.new.items ≡ out.old.items ++ flat_map (written_site names.now refs.now) sites.now) }
     ensures small { OnOk result (All IsSmallSite sites.now) }
 {
     for site in sites {
-        push_site(out, names, refs, site)?;
+        push_site(out, names, refs, site, hints)?;
     }
     Ok(())
 }
 
-#[tactic(auto, unfolding(crate::specs::Written::written_method))]
+#[tactic(auto, unfolding(crate::specs::Internal::Written::written_method))]
 fn push_method(
     out: &mut Vec<u8>,
     names: &[Name],
     refs: &[RefRow4],
     method: &Method,
+    hints: &mut Hints,
 ) -> Result<(), AllocError>
     requires tables { AreTables names.now refs.now }
     requires few { HasFewSites method.now }
@@ -144,11 +151,11 @@ fn push_method(
     ensures small { OnOk result (IsSmallMethod method.now) }
 {
     let sites = method.sites.as_slice();
-    push_u4(out, number_of(names, &method.name))?;
-    push_u4(out, number_of(names, &method.desc))?;
+    push_u4(out, number_of(names, &method.name, hints.next()))?;
+    push_u4(out, number_of(names, &method.desc, hints.next()))?;
     push_u2(out, method.flags)?;
     push_u4(out, sites.len() as u32)?;
-    push_sites(out, names, refs, sites)?;
+    push_sites(out, names, refs, sites, hints)?;
     Ok(())
 }
 
@@ -157,6 +164,7 @@ fn push_methods(
     names: &[Name],
     refs: &[RefRow4],
     methods: &[Method],
+    hints: &mut Hints,
 ) -> Result<(), AllocError>
     requires tables { AreTables names.now refs.now }
     requires few { All HasFewSites methods.now }
@@ -164,60 +172,80 @@ fn push_methods(
     ensures small { OnOk result (All IsSmallMethod methods.now) }
 {
     for method in methods {
-        push_method(out, names, refs, method)?;
+        push_method(out, names, refs, method, hints)?;
     }
     Ok(())
 }
 
-fn push_field(out: &mut Vec<u8>, names: &[Name], field: &Field) -> Result<(), AllocError>
+fn push_field(
+    out: &mut Vec<u8>,
+    names: &[Name],
+    field: &Field,
+    hints: &mut Hints,
+) -> Result<(), AllocError>
     requires rises { Rises names.now }
     requires few { length names.now < 2 ^ 32 }
     ensures text { OnOk result (out.new.items ≡ out.old.items ++ written_field names.now field.now) }
     ensures small { OnOk result (IsSmallField field.now) }
 {
-    push_u4(out, number_of(names, &field.name))?;
-    push_u4(out, number_of(names, &field.desc))?;
+    push_u4(out, number_of(names, &field.name, hints.next()))?;
+    push_u4(out, number_of(names, &field.desc, hints.next()))?;
     push_u2(out, field.flags)
 }
 
-fn push_fields(out: &mut Vec<u8>, names: &[Name], fields: &[Field]) -> Result<(), AllocError>
+fn push_fields(
+    out: &mut Vec<u8>,
+    names: &[Name],
+    fields: &[Field],
+    hints: &mut Hints,
+) -> Result<(), AllocError>
     requires rises { Rises names.now }
     requires few { length names.now < 2 ^ 32 }
     ensures text { OnOk result (out.new.items ≡ out.old.items ++ flat_map (written_field names.now) fields.now) }
     ensures small { OnOk result (All IsSmallField fields.now) }
 {
     for field in fields {
-        push_field(out, names, field)?;
+        push_field(out, names, field, hints)?;
     }
     Ok(())
 }
 
-fn push_interfaces(out: &mut Vec<u8>, names: &[Name], interfaces: &[Name]) -> Result<(), AllocError>
+fn push_interfaces(
+    out: &mut Vec<u8>,
+    names: &[Name],
+    interfaces: &[Name],
+    hints: &mut Hints,
+) -> Result<(), AllocError>
     requires rises { Rises names.now }
     requires few { length names.now < 2 ^ 32 }
     ensures { OnOk result (out.new.items ≡ out.old.items ++ flat_map (written_name names.now) interfaces.now) }
 {
     for name in interfaces {
-        push_u4(out, number_of(names, name))?;
+        push_u4(out, number_of(names, name, hints.next()))?;
     }
     Ok(())
 }
 
 // The number of a superclass, or the one that stands for none.
-fn super_number(names: &[Name], superclass: &Option<Name>) -> u32
+fn super_number(names: &[Name], superclass: &Option<Name>, hints: &mut Hints) -> u32
     requires rises { Rises names.now }
     requires few { length names.now < 2 ^ 32 }
     ensures { result ≡ super_number (super_number_of names.now superclass.now) }
 {
     match superclass {
-        Some(name) => number_of(names, name),
+        Some(name) => number_of(names, name, hints.next()),
         None => NO_SUPERCLASS,
     }
 }
 
 // A type up to its interfaces.
-#[tactic(auto, unfolding(crate::specs::Written::written_head))]
-fn push_head(out: &mut Vec<u8>, names: &[Name], view: &View) -> Result<(), AllocError>
+#[tactic(auto, unfolding(crate::specs::Internal::Written::written_head))]
+fn push_head(
+    out: &mut Vec<u8>,
+    names: &[Name],
+    view: &View,
+    hints: &mut Hints,
+) -> Result<(), AllocError>
     requires rises { Rises names.now }
     requires few { length names.now < 2 ^ 32 }
     requires counts { HasCounts view.now }
@@ -225,21 +253,22 @@ fn push_head(out: &mut Vec<u8>, names: &[Name], view: &View) -> Result<(), Alloc
     ensures small { OnOk result (view.now.flags < 2 ^ 16) }
 {
     let interfaces = view.interfaces.as_slice();
-    push_u4(out, number_of(names, &view.name))?;
+    push_u4(out, number_of(names, &view.name, hints.next()))?;
     push_u2(out, view.flags)?;
-    push_u4(out, super_number(names, &view.superclass))?;
+    push_u4(out, super_number(names, &view.superclass, hints))?;
     push_u2(out, interfaces.len() as u16)?;
-    push_interfaces(out, names, interfaces)?;
+    push_interfaces(out, names, interfaces, hints)?;
     Ok(())
 }
 
 // The fields and the methods of a type.
-#[tactic(auto, unfolding(crate::specs::Written::written_members))]
+#[tactic(auto, unfolding(crate::specs::Internal::Written::written_members))]
 fn push_members(
     out: &mut Vec<u8>,
     names: &[Name],
     refs: &[RefRow4],
     view: &View,
+    hints: &mut Hints,
 ) -> Result<(), AllocError>
     requires tables { AreTables names.now refs.now }
     requires counts { HasCounts view.now }
@@ -249,26 +278,27 @@ fn push_members(
     let fields = view.fields.as_slice();
     let methods = view.methods.as_slice();
     push_u2(out, fields.len() as u16)?;
-    push_fields(out, names, fields)?;
+    push_fields(out, names, fields, hints)?;
     push_u2(out, methods.len() as u16)?;
-    push_methods(out, names, refs, methods)?;
+    push_methods(out, names, refs, methods, hints)?;
     Ok(())
 }
 
-#[tactic(auto, unfolding(crate::specs::Written::written_type))]
+#[tactic(auto, unfolding(crate::specs::Internal::Written::written_type))]
 fn push_type(
     out: &mut Vec<u8>,
     names: &[Name],
     refs: &[RefRow4],
     view: &View,
+    hints: &mut Hints,
 ) -> Result<(), AllocError>
     requires tables { AreTables names.now refs.now }
     requires counts { HasCounts view.now }
     ensures text { OnOk result (out.new.items ≡ out.old.items ++ written_type names.now refs.now view.now) }
     ensures small { OnOk result (IsSmallView view.now) }
 {
-    push_head(out, names, view)?;
-    push_members(out, names, refs, view)?;
+    push_head(out, names, view, hints)?;
+    push_members(out, names, refs, view, hints)?;
     Ok(())
 }
 
@@ -277,6 +307,7 @@ fn push_types(
     names: &[Name],
     refs: &[RefRow4],
     views: &[View],
+    hints: &mut Hints,
 ) -> Result<(), AllocError>
     requires tables { AreTables names.now refs.now }
     requires counts { All HasCounts views.now }
@@ -284,19 +315,20 @@ fn push_types(
     ensures small { OnOk result (All IsSmallView views.now) }
 {
     for view in views {
-        push_type(out, names, refs, view)?;
+        push_type(out, names, refs, view, hints)?;
     }
     Ok(())
 }
 
 // The bytes that spell the views, with the numbers of these tables. Takes a logarithm of the number of the names and of
 // the references in comparisons for each number.
-#[tactic(auto, unfolding(crate::specs::Written::written))]
+#[tactic(auto, unfolding(crate::specs::Internal::Written::written))]
 pub(crate) fn write_graph(
     alloc: Global,
     names: &[Name],
     refs: &[RefRow4],
     views: &[View],
+    hints: &mut Hints,
 ) -> Result<Vec<u8>, AllocError>
     requires tables { AreTables names.now refs.now }
     requires names { All FitsName names.now }
@@ -309,6 +341,6 @@ pub(crate) fn write_graph(
     let mut out = Vec::new(alloc);
     push_tables(&mut out, names, refs)?;
     push_u4(&mut out, views.len() as u32)?;
-    push_types(&mut out, names, refs, views)?;
+    push_types(&mut out, names, refs, views, hints)?;
     Ok(out)
 }

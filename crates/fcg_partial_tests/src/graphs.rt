@@ -1,7 +1,6 @@
-ghost use Rattle.std.specs.Prelude.{◌≡◌, IfSome};
-ghost use Rattle.fcg_partial.specs.Graph.{StoredType, StoredMethod};
+ghost use Rattle.std.specs.Prelude.{◌<◌, length};
 ghost use Rattle.fcg_partial.specs.Views.{graph_of};
-ghost use Rattle.fcg_partial.specs.Accessors.{type_told, method_told, HasType, HasMethod};
+ghost use Rattle.fcg_partial.specs.Accessors.{type_in};
 
 use fcg_grammar::ReadError;
 use fcg_partial::{FieldRow, MethodRow, PartialGraph, RecordRule, RefRow, SiteRow, TypeRow};
@@ -41,7 +40,7 @@ const CLASS: [u8; 96] = [
 ];
 
 // A byte of it by its place, what it is changed to, and the fault.
-const CHANGES: [(usize, u8, RecordRule, u32); 25] = [
+const CHANGES: &[(usize, u8, RecordRule, u32)] = &[
     (3, 0x53, RecordRule::Magic, 0),
     (5, 2, RecordRule::Version, 4),
     // the third name is the second, and the fourth is before the third
@@ -76,239 +75,109 @@ const CHANGES: [(usize, u8, RecordRule, u32); 25] = [
     (70, 0, RecordRule::Unused, 18),
 ];
 
-// What a decode answers to bytes that are no stored graph.
-fn fault_of(alloc: Global, bytes: &[u8]) -> Result<(RecordRule, u32), Fail> {
+// Pieces of one of the two graphs from one place to another, a place with the byte that stands there then, and the
+// fault.
+const PIECES: &[(&[u8], &[(usize, usize)], usize, u8, RecordRule, u32)] = &[
+    // the two names exchanged
+    (
+        &INTERFACE,
+        &[(0, 10), (13, 31), (10, 13), (31, 55)],
+        3,
+        0x52,
+        RecordRule::Order,
+        28,
+    ),
+    // the reference twice
+    (&CLASS, &[(0, 41), (28, 96)], 27, 2, RecordRule::Order, 41),
+    // the method twice
+    (
+        &CLASS,
+        &[(0, 96), (75, 96)],
+        74,
+        2,
+        RecordRule::DoubleMethod,
+        96,
+    ),
+    // no site, so that the reference isn't used
+    (&CLASS, &[(0, 89)], 88, 0, RecordRule::Unused, 28),
+    // a byte more
+    (
+        &CLASS,
+        &[(0, 96), (4, 5)],
+        3,
+        0x52,
+        RecordRule::Trailing,
+        96,
+    ),
+];
+
+// Whether a decode of the bytes answers this fault.
+fn is_fault(alloc: Global, bytes: &[u8], rule: RecordRule, offset: u32) -> bool {
     match PartialGraph::decode(alloc, bytes) {
-        Err(ReadError::Fault(fault)) => Ok((fault.rule, fault.offset)),
-        _ => Err("it has a fault".into()),
+        Err(ReadError::Fault(fault)) => fault.rule == rule && fault.offset == offset,
+        _ => false,
     }
 }
 
-fn interface(alloc: Global) -> Result<View, Fail> {
-    let name = Name::from_slice(alloc, b"I").ok().ok_or("no memory")?;
-    let object = Name::from_slice(alloc, b"java/lang/Object")
-        .ok()
-        .ok_or("no memory")?;
-    Ok(View {
-        name,
-        flags: 0x0601,
-        superclass: Some(object),
-        interfaces: Names::from(Vec::new(alloc)),
-        fields: Fields::from(Vec::new(alloc)),
-        methods: Methods::from(Vec::new(alloc)),
-    })
+fn decoded(alloc: Global, bytes: &[u8]) -> Result<PartialGraph, Fail> {
+    Ok(
+        PartialGraph::decode(alloc, bytes)
+            .ok()
+            .ok_or("it is a graph")?,
+    )
 }
 
-// The first bytes of one text, and then another.
-fn joined(alloc: Global, front: &[u8], back: &[u8]) -> Result<Vec<u8>, AllocError> {
-    let mut bytes = front.to_vec(alloc)?;
-    bytes.extend_from_slice(back)?;
-    Ok(bytes)
-}
-
-#[test]
-fn made_of_views(rt: HostRuntime) -> Result<(), Fail> {
-    let mut list = Vec::new(rt.alloc());
-    list.push(interface(rt.alloc())?)?;
-    let views = Views::from(list);
-    if !views.fits() || !views.as_slice().iter().all(|view| is_valid(view)) {
-        return Err("the view is valid".into());
+// Bytes with another one at a place.
+fn changed(alloc: Global, bytes: &[u8], at: usize, byte: u8) -> Result<Vec<u8>, AllocError> {
+    let mut changed = bytes.to_vec(alloc)?;
+    if let Some(old) = changed.get_mut(at) {
+        *old = byte;
     }
-    let graph = PartialGraph::from_views(rt.alloc(), views)
-        .ok()
-        .ok_or("no memory")?;
-    assert_eq!(rt; graph.as_bytes(), INTERFACE.as_slice());
-    assert_eq!(rt; graph.encoded_len(), 55);
-    let encoded = graph.encode(rt.alloc()).ok().ok_or("no memory")?;
-    assert_eq!(rt; encoded.as_slice(), INTERFACE.as_slice());
-    let decoded = PartialGraph::decode(rt.alloc(), &INTERFACE)
-        .ok()
-        .ok_or("it is a graph")?;
-    assert!(rt; graph.same(&decoded));
-    let other = PartialGraph::decode(rt.alloc(), &CLASS)
-        .ok()
-        .ok_or("it is a graph")?;
-    assert!(rt; !graph.same(&other));
-    Ok(())
+    Ok(changed)
+}
+
+// Pieces of bytes, one after the other.
+fn pieced(alloc: Global, bytes: &[u8], pieces: &[(usize, usize)]) -> Result<Vec<u8>, AllocError> {
+    let mut all = Vec::new(alloc);
+    for (from, to) in pieces {
+        all.extend_from_slice(bytes.get(*from..*to).unwrap_or(&[]))?;
+    }
+    Ok(all)
 }
 
 #[test]
 fn cut_at_each_length(rt: HostRuntime) -> Result<(), Fail> {
     for (n, cut) in CUTS.iter().enumerate() {
-        let want = (RecordRule::Cut, *cut);
-        assert_eq!(rt; fault_of(rt.alloc(), &INTERFACE[..n])?, want, "at {n}");
+        assert!(rt;
+            is_fault(rt.alloc(), &INTERFACE[..n], RecordRule::Cut, *cut),
+            "at {n}"
+        );
     }
     Ok(())
 }
 
 #[test]
 fn changed_bytes(rt: HostRuntime) -> Result<(), Fail> {
-    for (at, byte, rule, offset) in CHANGES.iter() {
-        let mut bytes = CLASS.to_vec(rt.alloc())?;
-        if let Some(old) = bytes.get_mut(*at) {
-            *old = *byte;
-        }
-        let want = (*rule, *offset);
-        assert_eq!(rt; fault_of(rt.alloc(), &bytes)?, want, "{byte} at {at}");
+    for (at, byte, rule, offset) in CHANGES {
+        let bytes = changed(rt.alloc(), &CLASS, *at, *byte)?;
+        assert!(rt;
+            is_fault(rt.alloc(), &bytes, *rule, *offset),
+            "{byte} at {at}"
+        );
     }
     Ok(())
 }
 
 #[test]
 fn broken_tables(rt: HostRuntime) -> Result<(), Fail> {
-    // the two names exchanged
-    let mut names = joined(rt.alloc(), &INTERFACE[..10], &INTERFACE[13..31])?;
-    names.extend_from_slice(&INTERFACE[10..13])?;
-    names.extend_from_slice(&INTERFACE[31..])?;
-    assert_eq!(rt; fault_of(rt.alloc(), &names)?, (RecordRule::Order, 28));
-
-    // the reference twice
-    let mut refs = joined(rt.alloc(), &CLASS[..41], &CLASS[28..])?;
-    if let Some(count) = refs.get_mut(27) {
-        *count = 2;
+    for (graph, pieces, at, byte, rule, offset) in PIECES {
+        let all = pieced(rt.alloc(), graph, pieces)?;
+        let bytes = changed(rt.alloc(), &all, *at, *byte)?;
+        assert!(rt;
+            is_fault(rt.alloc(), &bytes, *rule, *offset),
+            "the fault at {offset}"
+        );
     }
-    assert_eq!(rt; fault_of(rt.alloc(), &refs)?, (RecordRule::Order, 41));
-
-    // the method twice
-    let mut methods = joined(rt.alloc(), &CLASS, &CLASS[75..])?;
-    if let Some(count) = methods.get_mut(74) {
-        *count = 2;
-    }
-    let want = (RecordRule::DoubleMethod, 96);
-    assert_eq!(rt; fault_of(rt.alloc(), &methods)?, want);
-
-    // no site, so that the reference isn't used
-    let mut sites = CLASS[..89].to_vec(rt.alloc())?;
-    if let Some(count) = sites.get_mut(88) {
-        *count = 0;
-    }
-    assert_eq!(rt; fault_of(rt.alloc(), &sites)?, (RecordRule::Unused, 28));
-
-    // a byte more
-    let longer = joined(rt.alloc(), &CLASS, &[0])?;
-    let want = (RecordRule::Trailing, 96);
-    assert_eq!(rt; fault_of(rt.alloc(), &longer)?, want);
-    Ok(())
-}
-
-// Whether a number has this name.
-fn is_name(graph: &PartialGraph, n: u32, text: &str) -> bool {
-    n < graph.name_count() && graph.name_at(n) == text.as_bytes()
-}
-
-// The first row of each kind, where the graph has one.
-fn first_ref(graph: &PartialGraph) -> Option<RefRow> {
-    if graph.ref_count() == 0 {
-        return None;
-    }
-    Some(graph.ref_at(0))
-}
-
-fn first_type(graph: &PartialGraph) -> Option<TypeRow>
-    ensures { IfSome result (λ row. (t : StoredType) × HasType (graph_of graph.now) 0 t × (row ≡ type_told t)) }
-{
-    if graph.type_count() == 0 {
-        return None;
-    }
-    Some(graph.type_at(0))
-}
-
-fn first_interface(graph: &PartialGraph) -> Option<u32> {
-    let row = first_type(graph)?;
-    if row.interfaces == 0 {
-        return None;
-    }
-    Some(graph.interface_at(0, 0))
-}
-
-fn first_field(graph: &PartialGraph) -> Option<FieldRow> {
-    let row = first_type(graph)?;
-    if row.fields == 0 {
-        return None;
-    }
-    Some(graph.field_at(0, 0))
-}
-
-fn first_method(graph: &PartialGraph) -> Option<MethodRow>
-    ensures { IfSome result (λ row. (m : StoredMethod) × HasMethod (graph_of graph.now) 0 0 m × (row ≡ method_told m)) }
-{
-    let row = first_type(graph)?;
-    if row.methods == 0 {
-        return None;
-    }
-    Some(graph.method_at(0, 0))
-}
-
-fn first_site(graph: &PartialGraph) -> Option<SiteRow> {
-    let row = first_method(graph)?;
-    if row.sites == 0 {
-        return None;
-    }
-    Some(graph.site_at(0, 0, 0))
-}
-
-// Whether a graph can be shared between threads.
-fn is_shared<T: Send + Sync>(_: &T) -> bool {
-    true
-}
-
-#[test]
-fn rows_of_a_class(rt: HostRuntime) -> Result<(), Fail> {
-    let graph = PartialGraph::decode(rt.alloc(), &CLASS)
-        .ok()
-        .ok_or("it is a graph")?;
-    let graph = Arc::new(rt.alloc(), graph).ok().ok_or("no memory")?;
-    assert!(rt; is_shared(&graph));
-    assert_eq!(rt; graph.name_count(), 4);
-    assert_eq!(rt; graph.ref_count(), 1);
-    assert_eq!(rt; graph.type_count(), 1);
-    Ok(())
-}
-
-#[test]
-fn each_row_of_a_class(rt: HostRuntime) -> Result<(), Fail> {
-    let graph = PartialGraph::decode(rt.alloc(), &CLASS)
-        .ok()
-        .ok_or("it is a graph")?;
-    for (n, text) in [(0, "()V"), (1, "A"), (2, "I"), (3, "m")] {
-        assert!(rt; is_name(&graph, n, text), "name {n}");
-    }
-    let target = RefRow {
-        owner: 1,
-        owner_is_interface_ref: false,
-        name: 3,
-        desc: 0,
-    };
-    assert_eq!(rt; first_ref(&graph), Some(target));
-    let row = TypeRow {
-        name: 1,
-        flags: 0x21,
-        superclass: None,
-        interfaces: 1,
-        fields: 1,
-        methods: 1,
-    };
-    assert_eq!(rt; first_type(&graph), Some(row));
-    assert_eq!(rt; first_interface(&graph), Some(1));
-    let field = FieldRow {
-        name: 3,
-        desc: 2,
-        flags: 1,
-    };
-    assert_eq!(rt; first_field(&graph), Some(field));
-    let method = MethodRow {
-        name: 3,
-        desc: 0,
-        flags: 9,
-        sites: 1,
-    };
-    assert_eq!(rt; first_method(&graph), Some(method));
-    let site = SiteRow {
-        pc: 0,
-        kind: SiteKind::Static,
-        reference: 0,
-    };
-    assert_eq!(rt; first_site(&graph), Some(site));
     Ok(())
 }
 
@@ -320,18 +189,257 @@ fn name(alloc: Global, text: &str) -> Result<Name, Fail> {
     )
 }
 
-// A site that names the method `m()V` of `A`.
-fn site(alloc: Global, pc: u16, kind: SiteKind) -> Result<Site, Fail> {
-    Ok(Site {
-        pc,
-        kind,
-        target: Ref {
-            owner: name(alloc, "A")?,
-            owner_is_interface_ref: false,
-            name: name(alloc, "m")?,
-            desc: name(alloc, "()V")?,
-        },
+fn interface(alloc: Global) -> Result<View, Fail> {
+    Ok(View {
+        name: name(alloc, "I")?,
+        flags: 0x0601,
+        superclass: Some(name(alloc, "java/lang/Object")?),
+        interfaces: Names::from(Vec::new(alloc)),
+        fields: Fields::from(Vec::new(alloc)),
+        methods: Methods::from(Vec::new(alloc)),
     })
+}
+
+// The graph of views.
+fn made(alloc: Global, views: Vec<View>) -> Result<PartialGraph, Fail> {
+    let views = Views::from(views);
+    if !views.fits() || !views.as_slice().iter().all(|view| is_valid(view)) {
+        return Err("the views are valid".into());
+    }
+    Ok(
+        PartialGraph::from_views(alloc, views)
+            .ok()
+            .ok_or("no memory")?,
+    )
+}
+
+fn interface_graph(alloc: Global) -> Result<PartialGraph, Fail> {
+    let mut views = Vec::new(alloc);
+    views.push(interface(alloc)?)?;
+    made(alloc, views)
+}
+
+// Whether the bytes spell a graph.
+fn is_spelled(graph: &PartialGraph, bytes: &[u8]) -> bool {
+    graph.as_bytes() == bytes && graph.encoded_len() == bytes.len() as u64
+}
+
+// Whether a graph is the one that the bytes spell.
+fn is_graph_of(alloc: Global, graph: &PartialGraph, bytes: &[u8]) -> Result<bool, Fail> {
+    let other = decoded(alloc, bytes)?;
+    Ok(graph.same(&other))
+}
+
+// Whether the graph's own bytes are these, in a copy.
+fn is_encoded(alloc: Global, graph: &PartialGraph, bytes: &[u8]) -> Result<bool, Fail> {
+    let encoded = graph.encode(alloc).ok().ok_or("no memory")?;
+    Ok(encoded.as_slice() == bytes)
+}
+
+#[test]
+fn made_of_views(rt: HostRuntime) -> Result<(), Fail> {
+    let graph = interface_graph(rt.alloc())?;
+    assert!(rt; is_spelled(&graph, &INTERFACE));
+    assert!(rt; is_encoded(rt.alloc(), &graph, &INTERFACE)?);
+    Ok(())
+}
+
+#[test]
+fn same_graphs(rt: HostRuntime) -> Result<(), Fail> {
+    let graph = interface_graph(rt.alloc())?;
+    assert!(rt; is_graph_of(rt.alloc(), &graph, &INTERFACE)?);
+    assert!(rt; !is_graph_of(rt.alloc(), &graph, &CLASS)?);
+    Ok(())
+}
+
+#[test]
+fn one_name_apart(rt: HostRuntime) -> Result<(), Fail> {
+    let graph = decoded(rt.alloc(), &CLASS)?;
+    let bytes = changed(rt.alloc(), &CLASS, 17, 0x42)?;
+    assert!(rt; !is_graph_of(rt.alloc(), &graph, &bytes)?);
+    Ok(())
+}
+
+const NAMES: &[(u32, &str)] = &[(0, "()V"), (1, "A"), (2, "I"), (3, "m")];
+
+const REFERENCE: RefRow = RefRow {
+    owner: 1,
+    owner_is_interface_ref: false,
+    name: 3,
+    desc: 0,
+};
+
+const TYPE: TypeRow = TypeRow {
+    name: 1,
+    flags: 0x21,
+    superclass: None,
+    interfaces: 1,
+    fields: 1,
+    methods: 1,
+};
+
+const FIELD: FieldRow = FieldRow {
+    name: 3,
+    desc: 2,
+    flags: 1,
+};
+
+const METHOD: MethodRow = MethodRow {
+    name: 3,
+    desc: 0,
+    flags: 9,
+    sites: 1,
+};
+
+const SITE: SiteRow = SiteRow {
+    pc: 0,
+    kind: SiteKind::Static,
+    reference: 0,
+};
+
+// Whether a number has this name.
+fn is_name(graph: &PartialGraph, n: u32, text: &str) -> bool {
+    n < graph.name_count() && graph.name_at(n) == text.as_bytes()
+}
+
+// Whether the graph has one reference, and it is this.
+fn is_only_ref(graph: &PartialGraph, row: RefRow) -> bool {
+    graph.ref_count() == 1 && graph.ref_at(0) == row
+}
+
+// Whether the graph has one type, and it is this.
+fn is_only_type(graph: &PartialGraph, row: TypeRow) -> bool {
+    graph.type_count() == 1 && graph.type_at(0) == row
+}
+
+// Whether the first type has one interface, by its number, and one field.
+fn is_only_field(graph: &PartialGraph, interface: u32, row: FieldRow) -> bool {
+    if graph.type_count() == 0 {
+        return false;
+    }
+    let first = graph.type_at(0);
+    first.interfaces == 1
+        && graph.interface_at(0, 0) == interface
+        && first.fields == 1
+        && graph.field_at(0, 0) == row
+}
+
+// Whether the first type has one method, and it has one site.
+fn is_only_site(graph: &PartialGraph, row: MethodRow, site: SiteRow) -> bool {
+    if graph.type_count() == 0 || graph.type_at(0).methods != 1 {
+        return false;
+    }
+    let first = graph.method_at(0, 0);
+    first == row && first.sites == 1 && graph.site_at(0, 0, 0) == site
+}
+
+#[test]
+fn names_of_a_class(rt: HostRuntime) -> Result<(), Fail> {
+    let graph = decoded(rt.alloc(), &CLASS)?;
+    assert!(rt; graph.name_count() == 4);
+    for (n, text) in NAMES {
+        assert!(rt; is_name(&graph, *n, text), "name {n}");
+    }
+    Ok(())
+}
+
+#[test]
+fn each_row_of_a_class(rt: HostRuntime) -> Result<(), Fail> {
+    let graph = decoded(rt.alloc(), &CLASS)?;
+    assert!(rt; is_only_ref(&graph, REFERENCE), "the reference");
+    assert!(rt; is_only_type(&graph, TYPE), "the type");
+    assert!(rt;
+        is_only_field(&graph, 1, FIELD),
+        "the interface and the field"
+    );
+    assert!(rt;
+        is_only_site(&graph, METHOD, SITE),
+        "the method and the site"
+    );
+    Ok(())
+}
+
+// The sites of a method, each looked at with its reference.
+fn count_sites(graph: &PartialGraph, i: u32, k: u16) -> u32
+    requires { k < length (type_in (graph_of graph.now) i).methods }
+{
+    let method = graph.method_at(i, k);
+    let _desc = graph.name_at(method.desc);
+    let mut count = 0_u32;
+    for s in 0..method.sites {
+        let site = graph.site_at(i, k, s);
+        let target = graph.ref_at(site.reference);
+        let _owner = graph.name_at(target.owner);
+        count = count.saturating_add(1);
+    }
+    count
+}
+
+// The interfaces, the fields and the sites of a type, each looked at with its names.
+fn count_members(graph: &PartialGraph, i: u32) -> u32
+    requires { i < length (graph_of graph.now).types }
+{
+    let row = graph.type_at(i);
+    let _name = graph.name_at(row.name);
+    let mut count = 0_u32;
+    for j in 0..row.interfaces {
+        let _interface = graph.name_at(graph.interface_at(i, j));
+        count = count.saturating_add(1);
+    }
+    for j in 0..row.fields {
+        let field = graph.field_at(i, j);
+        let _desc = graph.name_at(field.desc);
+        count = count.saturating_add(1);
+    }
+    for k in 0..row.methods {
+        count = count.saturating_add(count_sites(graph, i, k));
+    }
+    count
+}
+
+// The interfaces, the fields and the sites of all types. No loop over a graph needs a proof of its own.
+fn count_all(graph: &PartialGraph) -> u32 {
+    let mut count = 0_u32;
+    for i in 0..graph.type_count() {
+        count = count.saturating_add(count_members(graph, i));
+    }
+    count
+}
+
+// Whether a graph can be shared between threads.
+fn is_shared<T: Send + Sync>(_: &T) -> bool {
+    true
+}
+
+#[test]
+fn counts_of_a_class(rt: HostRuntime) -> Result<(), Fail> {
+    let graph = decoded(rt.alloc(), &CLASS)?;
+    let graph = Arc::new(rt.alloc(), graph).ok().ok_or("no memory")?;
+    assert!(rt; is_shared(&graph) && count_all(&graph) == 3);
+    Ok(())
+}
+
+// The method `m()V` of `A`.
+fn target(alloc: Global) -> Result<Ref, Fail> {
+    Ok(Ref {
+        owner: name(alloc, "A")?,
+        owner_is_interface_ref: false,
+        name: name(alloc, "m")?,
+        desc: name(alloc, "()V")?,
+    })
+}
+
+// Sites of these kinds at one place, which name it.
+fn sites(alloc: Global, pc: u16, kinds: &[SiteKind]) -> Result<Vec<Site>, Fail> {
+    let mut sites = Vec::new(alloc);
+    for kind in kinds {
+        sites.push(Site {
+            pc,
+            kind: *kind,
+            target: target(alloc)?,
+        })?;
+    }
+    Ok(sites)
 }
 
 // A method `m()V` with these sites.
@@ -344,18 +452,33 @@ fn method(alloc: Global, sites: Vec<Site>) -> Result<Method, Fail> {
     })
 }
 
-// The class whose graph stands above.
-fn class(alloc: Global, sites: Vec<Site>) -> Result<View, Fail> {
-    let mut interfaces = Vec::new(alloc);
-    interfaces.push(name(alloc, "A")?)?;
+fn methods(alloc: Global, sites: Vec<Site>) -> Result<Vec<Method>, Fail> {
+    let mut methods = Vec::new(alloc);
+    methods.push(method(alloc, sites)?)?;
+    Ok(methods)
+}
+
+fn fields(alloc: Global) -> Result<Vec<Field>, Fail> {
     let mut fields = Vec::new(alloc);
     fields.push(Field {
         name: name(alloc, "m")?,
         desc: name(alloc, "I")?,
         flags: 1,
     })?;
-    let mut methods = Vec::new(alloc);
-    methods.push(method(alloc, sites)?)?;
+    Ok(fields)
+}
+
+fn interfaces(alloc: Global) -> Result<Vec<Name>, Fail> {
+    let mut interfaces = Vec::new(alloc);
+    interfaces.push(name(alloc, "A")?)?;
+    Ok(interfaces)
+}
+
+// The class whose graph stands above.
+fn class(alloc: Global, sites: Vec<Site>) -> Result<View, Fail> {
+    let interfaces = interfaces(alloc)?;
+    let fields = fields(alloc)?;
+    let methods = methods(alloc, sites)?;
     Ok(View {
         name: name(alloc, "A")?,
         flags: 0x21,
@@ -368,12 +491,9 @@ fn class(alloc: Global, sites: Vec<Site>) -> Result<View, Fail> {
 
 #[test]
 fn views_of_a_class(rt: HostRuntime) -> Result<(), Fail> {
-    let graph = PartialGraph::decode(rt.alloc(), &CLASS)
-        .ok()
-        .ok_or("it is a graph")?;
+    let graph = decoded(rt.alloc(), &CLASS)?;
     let views = graph.views(rt.alloc()).ok().ok_or("no memory")?;
-    let mut sites = Vec::new(rt.alloc());
-    sites.push(site(rt.alloc(), 0, SiteKind::Static)?)?;
+    let sites = sites(rt.alloc(), 0, &[SiteKind::Static])?;
     let mut want = Vec::new(rt.alloc());
     want.push(class(rt.alloc(), sites)?)?;
     assert!(rt; views == Views::from(want));
@@ -396,43 +516,18 @@ const KINDS: [SiteKind; 11] = [
 ];
 
 // An interface, and a class with a site of each kind.
-fn two_views(alloc: Global) -> Result<Views, Fail> {
-    let mut sites = Vec::new(alloc);
-    for kind in KINDS.iter() {
-        sites.push(site(alloc, 300, *kind)?)?;
-    }
+fn two_views(alloc: Global) -> Result<Vec<View>, Fail> {
+    let sites = sites(alloc, 300, &KINDS)?;
     let mut views = Vec::new(alloc);
     views.push(interface(alloc)?)?;
     views.push(class(alloc, sites)?)?;
-    Ok(Views::from(views))
+    Ok(views)
 }
 
 #[test]
 fn views_again(rt: HostRuntime) -> Result<(), Fail> {
-    let views = two_views(rt.alloc())?;
-    if !views.fits() || !views.as_slice().iter().all(|view| is_valid(view)) {
-        return Err("the views are valid".into());
-    }
-    let graph = PartialGraph::from_views(rt.alloc(), views)
-        .ok()
-        .ok_or("no memory")?;
+    let graph = made(rt.alloc(), two_views(rt.alloc())?)?;
     let again = graph.views(rt.alloc()).ok().ok_or("no memory")?;
-    assert!(rt; again == two_views(rt.alloc())?);
-    Ok(())
-}
-
-#[test]
-fn one_name_apart(rt: HostRuntime) -> Result<(), Fail> {
-    let graph = PartialGraph::decode(rt.alloc(), &CLASS)
-        .ok()
-        .ok_or("it is a graph")?;
-    let mut bytes = CLASS.to_vec(rt.alloc())?;
-    if let Some(letter) = bytes.get_mut(17) {
-        *letter = 0x42;
-    }
-    let other = PartialGraph::decode(rt.alloc(), &bytes)
-        .ok()
-        .ok_or("it is a graph")?;
-    assert!(rt; !graph.same(&other));
+    assert!(rt; again == Views::from(two_views(rt.alloc())?));
     Ok(())
 }

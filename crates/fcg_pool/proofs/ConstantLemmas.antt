@@ -11,8 +11,8 @@ use Rattle.fcg_classfile.specs.ClassFile.{Shape, Text, Bytes, One, Two, Kinded, 
 use Rattle.fcg_classfile.specs.Breaks.Groups.{is_single, bad_group}
 use Rattle.fcg_classfile.specs.Breaks.Pool as pool
 use Rattle.fcg_classfile.specs.Breaks.Pool.{grouped, shaped_at, constant_read, slot_at}
-use Rattle.fcg_pool.specs.ConstantAt.{shaped_in, constant_in, slot_in, ShapeLies, Lies}
-use Rattle.fcg_pool.specs.CodeValues.{start}
+use Rattle.fcg_pool.specs.Internal.ConstantAt.{shaped_in, constant_in, slot_in, ShapeLies, Lies}
+use Rattle.fcg_pool.specs.Internal.Entry.{before_first}
 use Rattle.fcg_pool.proofs.GroupLemmas.{single_none}
 
 u1_is : {E : Type 0} (cut : E) (bytes : List ℕ) (at n : ℕ) → u1_at cut bytes at ≡ Ok n → (at + 1 ≤ length bytes) × (get_or bytes at 0 ≡ n)
@@ -132,7 +132,7 @@ unfolding constant_in shaped_in
 single_in bytes at tag = rw tag refl
 
 pub single_slot : (bytes : List ℕ) (index at : ℕ) → at + 3 + number.u2 bytes (at + 1) ≤ length bytes → get_or bytes at 0 ≡ 1 → list_all is_single (number.part bytes (at + 3) (number.u2 bytes (at + 1))) ≡ true
-    → slot_at bytes index (start at) ≡ Ok (slot_in bytes (Some at), start (at + 3 + number.u2 bytes (at + 1)))
+    → slot_at bytes index (before_first at) ≡ Ok (slot_in bytes (Some at), before_first (at + 3 + number.u2 bytes (at + 1)))
 unfolding slot_at
 single_slot bytes index at le tag single = rw (single_in bytes at tag, single_read bytes index at le tag single) refl
 

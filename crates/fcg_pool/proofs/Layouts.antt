@@ -1,13 +1,13 @@
 -- The table of what follows opcodes, opcode by opcode.
-use Rattle.std.proofs.Common.{◌≡◌, ℕ, ◌+◌, ◌-◌, ◌<◌, ◌≤◌, ◌∙◌, List, length, map, get_or, Bool, true, false, ltb, ◌||◌, refl, sym, ap, arith}
-use Rattle.std.specs.Prelude.{Option, Some, None, Ok, is_some, nat_le, nat_lt}
+use Rattle.std.proofs.Common.{◌≡◌, ◌==◌, ℕ, ◌+◌, ◌-◌, ◌<◌, ◌≤◌, ◌∙◌, List, length, map, get_or, Bool, true, false, ltb, ◌||◌, refl, sym, ap, arith}
+use Rattle.std.specs.Prelude.{Option, Some, None, Ok, is_some, nat_le, nat_lt, if◌then◌else◌}
 use Rattle.std.specs.List.{range_with_len}
 use Rattle.fcg_grammar.specs.Number.{part_at}
 use Rattle.std.proofs.lemmas.List.{get_or-map}
 use Rattle.std.proofs.lemmas.List.FromFn.{get_or-map-range_with_len}
 use Rattle.std.proofs.lemmas.Bool.{le-ltb}
 use Rattle.std.proofs.lemmas.Bool.Decides.{nat_tests}
-use Rattle.fcg_classfile.specs.Instructions.{Form, form_of, Fixed}
+use Rattle.fcg_classfile.specs.Instructions.{Form, form_of, Fixed, Table, Lookup, Wide}
 use Rattle.fcg_classfile.specs.Sites.{SiteForm, site_form, is_dynamic}
 use Rattle.fcg_classfile.specs.Breaks.Instructions.{passed, formed_at, next_at}
 use Rattle.fcg_classfile.proofs.InstructionPlaces.{next_at_is}
@@ -73,3 +73,35 @@ plain_next code at lt byte few room =
     ∙ ap (λ (form : Option Form). formed_at code at form) (sym (layout_told (get_or code at 0) byte) ∙ told_fixed n few)
     ∙ passed_whole code (at + 1) n (omega (arith, room, lt))
     ∙ ap (λ (m : ℕ). Ok m) sum
+
+-- ---- and the other way: each such instruction is told
+
+chosen : (n : ℕ) (few table lookup wide two four : Bool) → Option Form
+chosen n few table lookup wide two four =
+    if few then Some (Fixed n)
+    else (if table then Some Table else (if lookup then Some Lookup else (if wide then Some Wide else (if two then Some (Fixed 2) else (if four then Some (Fixed 4) else None)))))
+
+only_few : (m n : ℕ) (few table lookup wide : Bool) → chosen m few table lookup wide false false ≡ Some (Fixed n) → (few ≡ true) × (m ≡ n)
+unfolding chosen
+only_few m n true table lookup wide is = (refl, cc)
+only_few m n false true lookup wide is = absurd cc
+only_few m n false false true wide is = absurd cc
+only_few m n false false false true is = absurd cc
+only_few m n false false false false is = absurd cc
+
+told_only : (m n : ℕ) → nat_lt 8 m ≡ false → form_told m ≡ Some (Fixed n) → (m ≡ n) × (n < 5)
+unfolding chosen
+told_only m n small is =
+    let two : (m == 9) ≡ false = grind (arith, nat_tests) in
+    let four : (m == 10) ≡ false = grind (arith, nat_tests) in
+    let few = only_few m n (nat_le m 4) (m == 5) (m == 6) (m == 7) (rw (two, four) at is) in
+    let le = few.0 in
+    let same = few.1 in
+    let lt : m < 5 = grind (arith, nat_tests) in
+    (same, omega (arith, same, lt))
+
+-- the number of an opcode of a fixed length, without a site or call
+pub plain_told : (opcode n : ℕ) → opcode < 256 → form_of opcode ≡ Some (Fixed n) → site_form opcode ≡ None → is_dynamic opcode ≡ false → (get_or LAYOUTS opcode 0 ≡ n) × (n < 5)
+plain_told opcode n lt form site call =
+    let unnamed : names opcode ≡ false = rw (site, call) refl in
+    told_only (get_or LAYOUTS opcode 0) n (numbered opcode lt ∙ unnamed) (layout_told opcode lt ∙ form)

@@ -7,7 +7,7 @@ use Rattle.std.proofs.lemmas.List.{length-map}
 use Rattle.std.proofs.Math.ListN.{get_or-map}
 use Rattle.fcg_classfile.specs.declared.fault.PoolFault.{PoolFault}
 use Rattle.fcg_classfile.specs.Breaks.Pool.{Entries, in_slot, constant_of, slot_kept}
-use Rattle.fcg_pool.specs.ConstantAt.{slot_in}
+use Rattle.fcg_pool.specs.Internal.ConstantAt.{slot_in}
 
 abbrev pub seen_as : List ℕ → List (Option ℕ) → Entries
 seen_as bytes places = record { bytes = bytes; slots = map (slot_in bytes) places }

@@ -1,12 +1,12 @@
 -- What the tag of a constant tells that stands in the file.
 use Rattle.std.proofs.Common.{◌≡◌, ℕ, ◌+◌, ◌≤◌, List, [], ◌∷◌, length, get_or, Bool, true, false, ◌==◌, refl, sym, arith}
-use Rattle.std.specs.Prelude.{Option, Some, None, Result, Ok, Err, if◌then◌else◌}
+use Rattle.std.specs.Prelude.{Option, Some, None, Ok, Err, if◌then◌else◌}
 use Rattle.std.proofs.lemmas.Bool.Decides.{Decides-eqb, nat_tests}
 use Rattle.fcg_grammar.specs.Number.{u2, part}
 use Rattle.fcg_classfile.specs.declared.fault.PoolRule.TheVariants.{WrongKind}
 use Rattle.fcg_classfile.specs.ClassFile.{Shape, Text, Bytes, One, Two, Kinded, is_one_of, shape_of, tag_of}
 use Rattle.fcg_classfile.specs.Breaks.Pool.{text_in, name_in, pair_in}
-use Rattle.fcg_pool.specs.ConstantAt.{shaped_in, constant_in, ShapeLies, Lies}
+use Rattle.fcg_pool.specs.Internal.ConstantAt.{shaped_in, constant_in, ShapeLies, Lies}
 
 -- ---- the tags of two shapes
 

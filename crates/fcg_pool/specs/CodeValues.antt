@@ -1,25 +1,13 @@
 -- The structs of the code, as those of the definition.
-use Rattle.std.specs.Prelude.{◌≡◌, ◌+◌, ◌≤◌, ℕ, List, length, false, Option, Some, None, Result, Ok}
+use Rattle.std.specs.Prelude.{◌≡◌, ◌+◌, ◌-◌, ◌^◌, ◌≤◌, ℕ, List, length, min, Option, Some, None, Result, Ok}
 use Rattle.fcg_grammar.specs.Number.{part}
 use Rattle.fcg_grammar.specs.Reading.{◌>>=◌}
 use Rattle.fcg_classfile.specs.declared.fault.PoolRule.{PoolRule}
 use Rattle.fcg_classfile.specs.ClassFile.{Constant, Utf8, Plain, Named, Pair, Handle}
 use Rattle.fcg_classfile.specs.Breaks.Pool as pool
-use Rattle.fcg_pool.specs.declared.entries.Next.{Next}
-use Rattle.fcg_pool.specs.declared.pool.Indexes.{Indexes}
 use Rattle.fcg_pool.specs.declared.pool.RefSpan.{RefSpan}
 use Rattle.fcg_pool.specs.declared.pool.Text.{Text}
 use Rattle.fcg_pool.specs.declared.pool.RefTexts.{RefTexts}
-
-abbrev pub next_of : Next → pool.Next
-next_of n = record { at = n.at; second = n.second }
-
--- before the first constant
-abbrev pub start : ℕ → pool.Next
-start at = record { at = at; second = false }
-
-abbrev pub indexes_of : Indexes → pool.Indexes
-indexes_of x = record { tag = x.tag; first = x.first; second = x.second }
 
 abbrev pub span_of : RefSpan → pool.Reference
 span_of r = record { tag = r.tag; owner = r.owner.now; name = r.name.now; desc = r.desc.now }
@@ -57,3 +45,7 @@ handle_indexes_in (Handle kind i) = Some (kind, i)
 -- the same of the constant at an index
 abbrev pub handle_indexes_of : pool.Entries → ℕ → Result (Option (ℕ × ℕ)) PoolRule
 handle_indexes_of p index = pool.constant_of p index >>= λ c. Ok (handle_indexes_in c)
+
+-- a place that is too large for its field is given as the field's last value
+abbrev pub place_given : ℕ → ℕ
+place_given at = min at (2 ^ 32 - 1)

@@ -1,3 +1,2 @@
-pub mod ConstantAt
 pub mod CodeValues
 pub mod Internal

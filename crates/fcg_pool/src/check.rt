@@ -3,7 +3,7 @@ ghost use Rattle.std.specs.Prelude.{◌≡◌, ◌∷◌, []};
 ghost use Rattle.fcg_classfile.specs.ClassFile.{is_one_of, handle_tags, pair_wants, wants};
 ghost use Rattle.fcg_classfile.specs.Breaks.Pool.{want_kept, wants_kept, is_kind, has_room, constant_kept, at_tag, slot_kept};
 ghost use Rattle.fcg_pool.specs.Internal.Entry.{constant_seen};
-ghost use Rattle.fcg_pool.specs.ConstantAt.{slot_in, IsInside};
+ghost use Rattle.fcg_pool.specs.Internal.ConstantAt.{slot_in, IsInside};
 
 use crate::constant::{Entry, find_constant};
 use crate::pool::Pool;

@@ -6,8 +6,8 @@ ghost use Rattle.fcg_classfile.specs.ClassFile as file;
 ghost use Rattle.fcg_classfile.specs.ClassFile.{is_one_of, tag_of, is_wide};
 ghost use Rattle.fcg_classfile.specs.Breaks.Pool.{shaped_at, constant_read, text_in, name_in, pair_in};
 ghost use Rattle.fcg_pool.specs.Internal.Entry.{shape_seen, constant_seen};
-ghost use Rattle.fcg_pool.specs.CodeValues.{indexes_of};
-ghost use Rattle.fcg_pool.specs.ConstantAt.{shaped_in, constant_in, ShapeLies, Lies};
+ghost use Rattle.fcg_pool.specs.Internal.Entry.{indexes_of};
+ghost use Rattle.fcg_pool.specs.Internal.ConstantAt.{shaped_in, constant_in, ShapeLies, Lies};
 
 use crate::check::is_one_of;
 use crate::groups::find_bad_group;
@@ -212,7 +212,7 @@ pub fn name_at(bytes: &[u8], at: usize) -> Result<u16, PoolRule>
 }
 
 // The two indexes of a constant of a shape and of a tag.
-#[tactic(auto, unfolding(crate::specs::ConstantAt::shaped_in, crate::specs::ConstantAt::ShapeLies))]
+#[tactic(auto, unfolding(crate::specs::Internal::ConstantAt::shaped_in, crate::specs::Internal::ConstantAt::ShapeLies))]
 fn shaped_pair(bytes: &[u8], at: usize, tag: u8, shape: Option<Shape>) -> Result<Indexes, PoolRule>
     requires { ShapeLies bytes.now at (shape_seen shape) }
     ensures { (tags : List ℕ) → is_one_of tags tag ≡ true → seen indexes_of result ≡ pair_in tags (shaped_in bytes.now at tag (shape_seen shape)) }
@@ -229,7 +229,7 @@ fn shaped_pair(bytes: &[u8], at: usize, tag: u8, shape: Option<Shape>) -> Result
 }
 
 /// The two indexes of the constant that stands at a place, which is of one of these tags.
-#[tactic(auto, unfolding(crate::specs::ConstantAt::constant_in), using(crate::proofs::StandingLemmas::no_pair))]
+#[tactic(auto, unfolding(crate::specs::Internal::ConstantAt::constant_in), using(crate::proofs::StandingLemmas::no_pair))]
 pub fn pair_at(bytes: &[u8], at: usize, tags: &[u8]) -> Result<Indexes, PoolRule>
     requires { Lies bytes.now at }
     ensures { seen indexes_of result ≡ pair_in tags.now (constant_in bytes.now at) }
@@ -241,7 +241,7 @@ pub fn pair_at(bytes: &[u8], at: usize, tags: &[u8]) -> Result<Indexes, PoolRule
     shaped_pair(bytes, at, tag, shape_of(tag))
 }
 
-#[tactic(auto, unfolding(crate::specs::ConstantAt::shaped_in, crate::specs::ConstantAt::ShapeLies))]
+#[tactic(auto, unfolding(crate::specs::Internal::ConstantAt::shaped_in, crate::specs::Internal::ConstantAt::ShapeLies))]
 fn find_shaped(bytes: &[u8], at: usize, tag: u8, shape: Option<Shape>) -> Entry<'_>
     requires { ShapeLies bytes.now at (shape_seen shape) }
     ensures { constant_seen result ≡ shaped_in bytes.now at tag (shape_seen shape) }
@@ -269,7 +269,7 @@ pub fn find_tag(bytes: &[u8], at: usize) -> u8
 }
 
 /// The constant that stands at a place.
-#[tactic(auto, unfolding(crate::specs::ConstantAt::constant_in))]
+#[tactic(auto, unfolding(crate::specs::Internal::ConstantAt::constant_in))]
 pub fn find_constant(bytes: &[u8], at: usize) -> Entry<'_>
     requires { Lies bytes.now at }
     ensures { constant_seen result ≡ constant_in bytes.now at }

@@ -3,8 +3,8 @@ ghost use Rattle.std.specs.Prelude.{◌≡◌, ℕ, ◌≤◌, ◌-◌, length, 
 ghost use Rattle.fcg_grammar.specs.Reading.{seen, Gives};
 ghost use Rattle.fcg_grammar.specs.Rows.{rows};
 ghost use Rattle.fcg_classfile.specs.Breaks.Pool.{slot_at};
-ghost use Rattle.fcg_pool.specs.ConstantAt.{slot_in, Lies, IsInside, IsPool};
-ghost use Rattle.fcg_pool.specs.CodeValues.{next_of, start};
+ghost use Rattle.fcg_pool.specs.Internal.ConstantAt.{slot_in, Lies, IsInside, IsPool};
+ghost use Rattle.fcg_pool.specs.Internal.Entry.{next_of, before_first};
 
 use crate::constant::{part_in, read_constant, u2_in};
 use crate::groups::are_single;
@@ -25,7 +25,7 @@ pub struct Next {
 #[tactic(auto, using(crate::proofs::ConstantLemmas::single_slot, crate::proofs::ConstantLemmas::single_lies))]
 fn single_text_end(bytes: &[u8], at: usize) -> Option<usize>
     requires { at ≤ length bytes.now }
-    ensures value { IfSome result (λ after. (index : ℕ) → slot_at bytes.now index (start at) ≡ Ok (slot_in bytes.now (Some at), start after)) }
+    ensures value { IfSome result (λ after. (index : ℕ) → slot_at bytes.now index (before_first at) ≡ Ok (slot_in bytes.now (Some at), before_first after)) }
     ensures inside { IfSome result (λ after. (after ≤ length bytes.now) × Lies bytes.now at) }
 {
     if bytes.len() - at < 3 || bytes[at] != 1 {
@@ -81,7 +81,7 @@ pub fn read_slots(
     at: usize,
 ) -> Result<(Vec<Option<usize>>, Next), ReadError<PoolFault>>
     requires { at ≤ length bytes.now }
-    ensures value { Gives (λ x. (map (slot_in bytes.now) x.0.items, next_of x.1)) result (rows (slot_at bytes.now) (count - 1) 1 (start at)) }
+    ensures value { Gives (λ x. (map (slot_in bytes.now) x.0.items, next_of x.1)) result (rows (slot_at bytes.now) (count - 1) 1 (before_first at)) }
     ensures inside { IfOk result (λ x. (x.1.at ≤ length bytes.now) × IsPool bytes.now x.0.items) }
 {
     let mut places = Vec::with_capacity(alloc, usize::from(count))?;

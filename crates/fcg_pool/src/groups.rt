@@ -1,7 +1,8 @@
 //! Modified UTF-8.
 ghost use Rattle.std.specs.Prelude.{◌≡◌, ◌+◌, ◌<◌, ◌≤◌, ◌^◌, length, IfSome};
 ghost use Rattle.std.specs.List.{list_all};
-ghost use Rattle.fcg_classfile.specs.Breaks.Groups.{is_single, bad_group, group_len};
+ghost use Rattle.fcg_classfile.specs.Breaks.Groups.{is_single, bad_group};
+ghost use Rattle.fcg_classfile.specs.Internal.Group.{group_len};
 
 // How many bytes the group at the front has, or 0.
 fn front_group(text: &[u8]) -> usize

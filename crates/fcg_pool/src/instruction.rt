@@ -1,12 +1,14 @@
 //! One instruction at a time.
-ghost use Rattle.std.specs.Prelude.{◌≡◌, ◌+◌, ◌<◌, ◌≤◌, ◌^◌, length, slice_index, false, None, Ok, IfOk, IsOk};
+ghost use Rattle.std.specs.Prelude.{◌≡◌, ◌+◌, ◌<◌, ◌≤◌, ◌^◌, ℕ, length, slice_index, false, None, Some, Ok, IfOk, IfSome};
 ghost use Rattle.fcg_grammar.specs.Reading.{seen};
-ghost use Rattle.fcg_classfile.specs.Instructions.{form_of, wide_of, moved_up, pad_of};
+ghost use Rattle.fcg_classfile.specs.Instructions.{form_of, Fixed, wide_of, moved_up, pad_of};
 ghost use Rattle.fcg_classfile.specs.Sites.{site_form, is_dynamic};
 ghost use Rattle.fcg_classfile.specs.Breaks.Instructions.{passed, table_at, lookup_at, wide_at, formed_at, next_at, operand_in, operand_at};
-ghost use Rattle.fcg_pool.specs.Internal.Layout.{form_seen, form_told};
+ghost use Rattle.fcg_pool.specs.CodeValues.{place_given};
+ghost use Rattle.fcg_pool.specs.Internal.Layout.{form_seen, form_told, least_after};
 ghost use Rattle.fcg_pool.specs.declared.instruction.TheConstants.{LAYOUTS};
 
+use crate::constant::u2_in;
 use fcg_classfile::CodeRule;
 use fcg_grammar::{read_part, read_u1, read_u4};
 
@@ -14,10 +16,11 @@ use fcg_grammar::{read_part, read_u1, read_u4};
 #[derive(Clone, Copy, Debug, PartialEq, Eq)]
 pub struct Instruction {
     pub opcode: u8,
-    /// The number of the two bytes after the opcode. It is 0 where the opcode has fewer, and for `tableswitch`,
-    /// `lookupswitch` and `wide`.
+    /// The number of the two bytes after the opcode, which are the first of the padding for some switches, and the opcode
+    /// that is made wide and a byte for `wide`. It is 0 where the instruction has fewer bytes.
     pub operand: u16,
-    /// The place of the next instruction, in bytes from the code's start; after the last one the code's length.
+    /// The place of the next instruction, in bytes from the code's start; after the last one the code's length. A place
+    /// that is too large is given as the last value.
     pub next: u32,
 }
 
@@ -78,7 +81,8 @@ fn layout_of(opcode: u8) -> Option<Layout>
 
 // How many bytes follow an opcode that is made wide.
 fn wide_operands(opcode: u8) -> Option<usize>
-    ensures { result ≡ wide_of opcode }
+    ensures value { result ≡ wide_of opcode }
+    ensures some { IfSome result (λ n. 2 ≤ n) }
 {
     match opcode {
         21..=25 | 54..=58 | 169 => Some(2),
@@ -119,7 +123,7 @@ fn pass_padding(code: &[u8], at: usize) -> Result<usize, CodeRule>
 fn pass_table(code: &[u8], at: usize) -> Result<usize, CodeRule>
     requires { at ≤ length code.now }
     ensures value { result ≡ table_at code.now at }
-    ensures inside { IfOk result (λ next. (at ≤ next) × (next ≤ length code.now)) }
+    ensures inside { IfOk result (λ next. (at + 2 ≤ next) × (next ≤ length code.now)) }
 {
     read_u4(code, at, CodeRule::CodeCut)?;
     let low = move_up(read_u4(code, at + 4, CodeRule::CodeCut)?);
@@ -136,7 +140,7 @@ fn pass_table(code: &[u8], at: usize) -> Result<usize, CodeRule>
 fn pass_lookup(code: &[u8], at: usize) -> Result<usize, CodeRule>
     requires { at ≤ length code.now }
     ensures value { result ≡ lookup_at code.now at }
-    ensures inside { IfOk result (λ next. (at ≤ next) × (next ≤ length code.now)) }
+    ensures inside { IfOk result (λ next. (at + 2 ≤ next) × (next ≤ length code.now)) }
 {
     read_u4(code, at, CodeRule::CodeCut)?;
     let count = read_u4(code, at + 4, CodeRule::CodeCut)?;
@@ -151,7 +155,7 @@ fn pass_lookup(code: &[u8], at: usize) -> Result<usize, CodeRule>
 fn pass_widened(code: &[u8], at: usize) -> Result<usize, CodeRule>
     requires { at ≤ length code.now }
     ensures value { result ≡ wide_at code.now at }
-    ensures inside { IfOk result (λ next. (at ≤ next) × (next ≤ length code.now)) }
+    ensures inside { IfOk result (λ next. (at + 2 ≤ next) × (next ≤ length code.now)) }
 {
     let opcode = read_u1(code, at, CodeRule::CodeCut)?;
     match wide_operands(opcode) {
@@ -164,7 +168,7 @@ fn pass_widened(code: &[u8], at: usize) -> Result<usize, CodeRule>
 fn pass_layout(code: &[u8], at: usize, layout: Layout) -> Result<usize, CodeRule>
     requires { at < length code.now }
     ensures value { result ≡ formed_at code.now at (form_seen (Some layout)) }
-    ensures inside { IfOk result (λ next. (at < next) × (next ≤ length code.now)) }
+    ensures inside { IfOk result (λ next. (at + least_after layout < next) × (next ≤ length code.now)) }
 {
     match layout {
         Layout::Fixed(n) => pass(code, at + 1, n),
@@ -180,26 +184,28 @@ fn pass_layout(code: &[u8], at: usize, layout: Layout) -> Result<usize, CodeRule
     }
 }
 
-// The number of the two bytes after an opcode that has so many.
-#[tactic(auto, using(fcg_classfile::proofs::InstructionPlaces::passed_room))]
+// The number of the two bytes after an opcode that stands at a place, where the instruction has so many.
 fn operand_after(code: &[u8], at: usize, layout: Layout) -> u16
-    requires { IsOk (formed_at code.now at (form_seen (Some layout))) }
+    requires { at + least_after layout < length code.now }
     ensures { result ≡ operand_in code.now at (form_seen (Some layout)) }
 {
     match layout {
-        Layout::Fixed(n) if n >= 2 => u16::from(code[at + 1]) * 256 + u16::from(code[at + 2]),
-        _ => 0,
+        Layout::Fixed(n) if n < 2 => 0,
+        Layout::Fixed(_) => u2_in(code, at + 1),
+        Layout::Table | Layout::Lookup | Layout::Wide => u2_in(code, at + 1),
     }
 }
 
-/// The instruction whose opcode stands at a place of a method's code, or the first rule that it breaks. A code of a
-/// class file has at most 65,535 bytes; the call takes up to 2 ^ 32 - 1 of them, so that each place fits. It takes no
-/// memory and constant time.
+/// The instruction whose opcode stands at a place of a method's code, or the first rule that it breaks: `CodeCut` where it
+/// passes the code's end, `BadOpcode` for an opcode from 202 on, `BadSwitch` for a `tableswitch` whose low is above its
+/// high or a `lookupswitch` of fewer than 0 pairs, `BadWide` for `wide` before an opcode that can't be made wide. It takes
+/// no memory and constant time.
 #[tactic(auto, using(fcg_classfile::proofs::InstructionPlaces::next_at_is))]
 pub fn next_instruction(code: &[u8], pc: u16) -> Result<Instruction, CodeRule>
     requires within { pc < length code.now }
-    requires short { length code.now < 2 ^ 32 }
-    ensures exact { seen (λ i. i.next) result ≡ next_at code.now pc }
+    ensures exact { seen (λ i. i.next) result ≡ seen place_given (next_at code.now pc) }
+    // No place of a shorter code is too large, and each code of a class file is shorter.
+    ensures short { length code.now < 2 ^ 32 → seen (λ i. i.next) result ≡ next_at code.now pc }
     ensures opcode { IfOk result (λ i. i.opcode ≡ slice_index code.now pc) }
     ensures operand { IfOk result (λ i. i.operand ≡ operand_at code.now pc) }
     ensures inside { IfOk result (λ i. (pc < i.next) × (i.next ≤ length code.now)) }
@@ -214,7 +220,7 @@ pub fn next_instruction(code: &[u8], pc: u16) -> Result<Instruction, CodeRule>
     Ok(Instruction {
         opcode,
         operand,
-        next: next as u32,
+        next: u32::try_from(next).unwrap_or(u32::MAX),
     })
 }
 
@@ -228,6 +234,7 @@ pub fn plain_len(code: &[u8], at: usize) -> usize
     ensures site { 0 < result → site_form (slice_index code.now at) ≡ None }
     ensures call { 0 < result → is_dynamic (slice_index code.now at) ≡ false }
     ensures inside { at + result ≤ length code.now }
+    ensures told { (n : ℕ) → form_of (slice_index code.now at) ≡ Some (Fixed n) → site_form (slice_index code.now at) ≡ None → is_dynamic (slice_index code.now at) ≡ false → at + n < length code.now → result ≡ n + 1 }
 {
     let operands = usize::from(layout_number(code[at]));
     if operands < 5 && operands < code.len() - at {

@@ -64,7 +64,7 @@ pub struct Pool<'a> {
 impl<'a> Model for Pool<'a> {
     ghost use Rattle.std.specs.Prelude.{map};
     ghost use Rattle.fcg_classfile.specs.Breaks.Pool.{Entries};
-    ghost use Rattle.fcg_pool.specs.ConstantAt.{slot_in, IsPool};
+    ghost use Rattle.fcg_pool.specs.Internal.ConstantAt.{slot_in, IsPool};
 
     ghost Value = { Entries };
 
@@ -77,8 +77,9 @@ impl<'a> Pool<'a> {
     ghost use Rattle.fcg_classfile.specs.Breaks.Pool.{Entries, constant_of, text_of, name_of, pair_of, reference_of, handle_of, dynamic_of, slot_kept, pool_at};
     ghost use Rattle.fcg_classfile.specs.ClassFile.{tag_of};
     ghost use Rattle.fcg_pool.specs.Internal.Entry.{constant_seen};
-    ghost use Rattle.fcg_pool.specs.ConstantAt.{constant_in, Lies};
-    ghost use Rattle.fcg_pool.specs.CodeValues.{indexes_of, span_of, texts_seen, IsTextOf, AreRefTexts, class_name_of, handle_pair_of, handle_indexes_of};
+    ghost use Rattle.fcg_pool.specs.Internal.ConstantAt.{constant_in, Lies};
+    ghost use Rattle.fcg_pool.specs.CodeValues.{span_of, texts_seen, IsTextOf, AreRefTexts, class_name_of, handle_pair_of, handle_indexes_of};
+    ghost use Rattle.fcg_pool.specs.Internal.Entry.{indexes_of};
 
     /// The bytes of the file.
     pub fn bytes(&self) -> &'a [u8]

@@ -9,7 +9,7 @@ use Rattle.fcg_classfile.specs.declared.fault.ClassRule.{ClassRule}
 use Rattle.fcg_classfile.specs.Breaks.Fault.{fault}
 use Rattle.fcg_classfile.specs.Breaks.Pool.{Entries}
 use Rattle.fcg_views.specs.Valid.{is_same}
-use Rattle.fcg_classfile.specs.Breaks.Attributes.{up_to, text_at, content_at, OneBegun, one_read_at, other_at, one_at}
+use Rattle.fcg_classfile.specs.Breaks.Attributes.{up_to, text_at, content_at, AttributesBefore, one_read_at, other_at, one_at}
 use Rattle.fcg_reader.specs.Internal.Attributes.{begun_one}
 
 -- whether it has the name, and the place after it
@@ -34,13 +34,13 @@ none_or_some None = refl
 none_or_some (Some a) = refl
 
 module _ {X : Type 0} (word : List ℕ) (twice : ClassRule) (said_at : Entries → ℕ → Result X ClassFault) (pool : Entries) (k at : ℕ) (read : Option (ℕ × X)) where
-  abbrev begun : OneBegun X
+  abbrev begun : AttributesBefore X
   begun = record { at = at; read = read }
 
-  abbrev said : ℕ → Result (Unit {0} × OneBegun X) ClassFault
+  abbrev said : ℕ → Result (Unit {0} × AttributesBefore X) ClassFault
   said after = said_at (up_to after pool) (at + 6) >>= λ x. Ok (tt, record { at = after; read = Some (at, x) })
 
-  abbrev passed : ℕ → Result (Unit {0} × OneBegun X) ClassFault
+  abbrev passed : ℕ → Result (Unit {0} × AttributesBefore X) ClassFault
   passed after = Ok (tt, record { at = after; read = read })
 
   one_is : one_at word twice said_at pool k begun ≡ (begun_one pool at word twice (is_some read) >>= by_name said passed)

@@ -25,9 +25,9 @@ use Rattle.fcg_classfile.specs.declared.fault.ClassRule.TheVariants.{DoubleMetho
 use Rattle.fcg_classfile.specs.Sites.{Found}
 use Rattle.fcg_classfile.specs.Breaks.Fault.{fault}
 use Rattle.fcg_classfile.specs.Breaks.Pool.{Entries}
-use Rattle.fcg_classfile.specs.Breaks.Attributes.{OneBegun, ones_at}
+use Rattle.fcg_classfile.specs.Breaks.Attributes.{AttributesBefore, ones_at}
 use Rattle.fcg_classfile.specs.Breaks.Code.{code_at}
-use Rattle.fcg_classfile.specs.Breaks.Members.{Declared, Unfinished, Begun, unfinished, declared_at, method_at}
+use Rattle.fcg_classfile.specs.Breaks.Members.{Declared, Unfinished, MethodsBefore, unfinished, declared_at, method_at}
 use Rattle.fcg_reader.specs.Internal.Members.{begun, GivesNext}
 use Rattle.fcg_classfile.proofs.WordLaws.{same_text}
 use Rattle.fcg_reader.proofs.FirstLemmas.{same_first, one_text, at_bool, both_equal}
@@ -178,7 +178,7 @@ methods_of-push methods m = map-append (λ (x : Unfinished). x.0) methods (m ∷
 -- ---- a method
 
 -- its attributes, where so many sites of the class are before it
-abbrev pub attributes_of : Entries → ℕ → ℕ → Result (OneBegun Found) ClassFault
+abbrev pub attributes_of : Entries → ℕ → ℕ → Result (AttributesBefore Found) ClassFault
 attributes_of pool count at = ones_at (codes "Code") DoubleCode (code_at count) pool at
 
 -- an earlier one is alike
@@ -193,7 +193,7 @@ unfolding method_at
 method_at-broken pool k at methods d errors.NoMemory is fresh broken = tt
 method_at-broken pool k at methods d (errors.Fault f) is fresh broken = rw (is, fresh, broken) refl
 
-pub method_at-read : (pool : Entries) (k at : ℕ) (methods : List Unfinished) (d : Declared) (read : OneBegun Found) → declared_at pool is_descriptor at ≡ Ok d → list_any (is_signature d.name d.desc) (methods_of methods) ≡ false
+pub method_at-read : (pool : Entries) (k at : ℕ) (methods : List Unfinished) (d : Declared) (read : AttributesBefore Found) → declared_at pool is_descriptor at ≡ Ok d → list_any (is_signature d.name d.desc) (methods_of methods) ≡ false
     → attributes_of pool (site_count (methods_of methods)) (at + 6) ≡ Ok read → method_at pool k (begun at methods) ≡ Ok (unfinished d read.read, begun read.at (methods ++ unfinished d read.read ∷ []))
 unfolding method_at
 method_at-read pool k at methods d read is fresh attributes = rw (is, fresh, attributes, methods_of-push methods (unfinished d read.read)) refl
@@ -201,7 +201,7 @@ method_at-read pool k at methods d read is fresh attributes = rw (is, fresh, att
 -- ---- the rows of methods, one after the other
 
 -- a row more
-pub row_more : (pool now : Entries) (count k place after : ℕ) (old new : List Unfinished) (total : Result (List Unfinished × Begun) ClassFault) → now ≡ pool → k < count
+pub row_more : (pool now : Entries) (count k place after : ℕ) (old new : List Unfinished) (total : Result (List Unfinished × MethodsBefore) ClassFault) → now ≡ pool → k < count
     → GivesNext (Ok after) old new (method_at pool k (begun place old)) → with_front old (rows (method_at pool) (count - k) k (begun place old)) ≡ total
     → with_front new (rows (method_at now) (count - (k + 1)) (k + 1) (begun after new)) ≡ total
 row_more pool now count k place after old new total same lt given so_far =

@@ -285,10 +285,17 @@ fn read_whole(alloc: Global, bytes: &[u8]) -> Result<Option<View>, ReadError<Cla
     Ok(shown(view))
 }
 
-/// The view of a class file (JVMS 4.1), or `None` for a module, or its first fault in reading order. It makes one pass
-/// over the bytes, and for each method some comparisons more, about the logarithm of the number of methods. It takes
-/// memory for the pool's entries, for the bootstrap methods and the calls of them, and for the view, whose names share
-/// one copy of the bytes.
+/// The view of a class file (JVMS 4.1), or `None` for a module, which has the flag 8000h.
+///
+/// The error is [`ReadError::Fault`] where the bytes are no class file: the first rule that they break, as
+/// [`ClassRule`](fcg_classfile::ClassRule) has them, the place of the item that breaks it, and the index of the pool that
+/// was in hand. The file is read from front to back, and what the indexes of constants name is checked after the last
+/// constant, the handle sites of `invokedynamic` after the last attribute, and that nothing follows at the end. The error
+/// is [`ReadError::NoMemory`] where memory ran out.
+///
+/// It makes one pass over the bytes, and for each method some comparisons more, about the logarithm of the number of
+/// methods. It takes memory for the pool's entries, for the bootstrap methods and the calls of them, and for the view,
+/// whose names share one copy of the bytes.
 pub fn read_class(alloc: Global, bytes: &[u8]) -> Result<Option<View>, ReadError<ClassFault>>
     // What is read is a class file with that view.
     ensures found { IfOk result (Reads bytes.now) }

@@ -18,8 +18,6 @@ mod methods;
 mod names;
 mod number;
 mod site;
-#[cfg(test)]
-mod tests;
 mod text;
 
 pub use class::read_class;

@@ -75,8 +75,7 @@ impl<'a> MethodTable<'a> {
         Ok(self.signatures.contains(&signature))
     }
 
-    /// Adds a method of this name and descriptor. The methods have at most 1,000,000 sites with its own. Without memory
-    /// the table is as it was.
+    /// Adds a method of this name and descriptor. The methods have at most 1,000,000 sites with its own.
     pub fn push(
         &mut self,
         method: Unfinished,

@@ -6,7 +6,7 @@ use Rattle.fcg_views.specs.declared.descriptor.DescSpan.{DescSpan}
 use Rattle.fcg_views.specs.declared.descriptor.DescFault.{DescFault}
 use Rattle.fcg_views.specs.declared.descriptor.DescState.{DescState}
 use Rattle.fcg_views.specs.declared.descriptor.DescState.TheVariants.{Start, Parameters, Array, Name, Returned, ReturnedArray, ReturnedName, Done}
-use Rattle.fcg_views.specs.DescriptorSteps.{taken, step, closed, goes, scan_from, ended, told, descriptor_of, fault_at}
+use Rattle.fcg_views.specs.DescriptorSteps.{taken, step, closed, goes, scan_from, ended, result_of_scan, descriptor_of, fault_at}
 use Rattle.fcg_views.specs.Descriptor.{IsDescriptor, IsFront, BreaksAt, Spans, FaultOf, FaultAt, is_letter, letter_units}
 use Rattle.fcg_views.proofs.DescRuns.{run, run-append, run_spelled, taken_fits}
 use Rattle.fcg_views.proofs.DescFound.{found, run_none}
@@ -232,10 +232,10 @@ module _ (Is Begins : List ℕ → Type 0) (start : DescState) (kind : IsReadFro
   ended_right text (ReturnedArray s d) begun l = at_end text (ReturnedArray s d) begun (λ span x. cc) l
   ended_right text (ReturnedName s filled) begun l = at_end text (ReturnedName s filled) begun (λ span x. cc) l
 
-  pub scanned : (text : List ℕ) → Begins text → Scanned text (told (length text) (scan_from 0 start text))
+  pub scanned : (text : List ℕ) → Begins text → Scanned text (result_of_scan (length text) (scan_from 0 start text))
   scanned text begun = by (scan_from 0 start text) refl
     where
-      by : (r : Result DescState ℕ) → scan_from 0 start text ≡ r → Scanned text (told (length text) r)
+      by : (r : Result DescState ℕ) → scan_from 0 start text ≡ r → Scanned text (result_of_scan (length text) r)
       by (Ok s) is = ended_right text s begun (lives 0 (length text) start text s (zero-add (length text)) kind.fine is)
       by (Err n) is = (n, breaks_where_it_dies text n begun (dies 0 start text n kind.fine is), refl)
 

@@ -13,7 +13,7 @@ use Rattle.fcg_views.specs.declared.descriptor.DescFault.{DescFault}
 use Rattle.fcg_views.specs.declared.descriptor.DescState.{DescState}
 use Rattle.fcg_views.specs.declared.descriptor.DescState.TheVariants.{Done, Returned}
 use Rattle.fcg_views.specs.Descriptor.{Item, Letter, Class, FieldType, MethodType, brackets, spell_item, spell_field, spell_return, IsItem, IsFieldType, IsReturn, Spans, IsFront, BreaksAt, FaultAt, FieldFaultAt, IsDescriptor, IsFieldDescriptor, is_letter}
-use Rattle.fcg_views.specs.DescriptorSteps.{scan_from, fault_at, told, descriptor_of, is_descriptor, is_void, is_field_descriptor, no_parameters, begins_with_void, without_span, field_descriptor_of}
+use Rattle.fcg_views.specs.DescriptorSteps.{scan_from, fault_at, result_of_scan, descriptor_of, is_descriptor, is_void, is_field_descriptor, no_parameters, begins_with_void, without_span, field_descriptor_of}
 use Rattle.fcg_views.proofs.DescRuns.{run, run_return}
 use Rattle.fcg_views.proofs.DescFound.{Back, found}
 use Rattle.fcg_views.proofs.DescBreaks.{finish, IsReadFrom, Scanned, scanned, told_right}
@@ -145,9 +145,9 @@ field_told text (Err fault) begun right = right
 field_right : (text : List ℕ) → IsRight text (field_descriptor_of text)
 field_right text = by (begins_with_void text) refl
   where
-    by : (v : Bool) → begins_with_void text ≡ v → IsRight text (if v then Err (fault_at 0) else without_span (told (length text) (scan_from 0 (Returned no_parameters) text)))
+    by : (v : Bool) → begins_with_void text ≡ v → IsRight text (if v then Err (fault_at 0) else without_span (result_of_scan (length text) (scan_from 0 (Returned no_parameters) text)))
     by true e = (0, void_breaks text e, refl)
-    by false e = field_told text (told (length text) (scan_from 0 (Returned no_parameters) text)) e (scanned IsFieldDescriptor Begins (Returned no_parameters) field_kind text e)
+    by false e = field_told text (result_of_scan (length text) (scan_from 0 (Returned no_parameters) text)) e (scanned IsFieldDescriptor Begins (Returned no_parameters) field_kind text e)
 
 pub field_found_by : (text : List ℕ) (r : Result (Unit {0}) DescFault) → r ≡ field_descriptor_of text → IsOk r → IsFieldDescriptor text
 field_found_by text (Ok u) e ok = subst (IsRight text) (sym e) (field_right text)

@@ -79,13 +79,13 @@ abbrev pub ended : DescState → ℕ → Result DescSpan DescFault
 ended (Done span) at = Ok span
 ended s at = Err (fault_at at)
 
-abbrev pub told : ℕ → Result DescState ℕ → Result DescSpan DescFault
-told end (Ok s) = ended s end
-told end (Err at) = Err (fault_at at)
+abbrev pub result_of_scan : ℕ → Result DescState ℕ → Result DescSpan DescFault
+result_of_scan end (Ok s) = ended s end
+result_of_scan end (Err at) = Err (fault_at at)
 
 -- what a text says, as a method descriptor
 abbrev pub descriptor_of : List ℕ → Result DescSpan DescFault
-descriptor_of text = told (length text) (scan text)
+descriptor_of text = result_of_scan (length text) (scan text)
 
 -- a field descriptor is read as a result, after no parameters
 abbrev pub no_parameters : DescSpan
@@ -104,7 +104,7 @@ without_span (Err fault) = Err fault
 -- what a text says, as a field descriptor: `V` is a result, and no field
 abbrev pub field_descriptor_of : List ℕ → Result (Unit {0}) DescFault
 field_descriptor_of text =
-    if begins_with_void text then Err (fault_at 0) else without_span (told (length text) (scan_from 0 (Returned no_parameters) text))
+    if begins_with_void text then Err (fault_at 0) else without_span (result_of_scan (length text) (scan_from 0 (Returned no_parameters) text))
 
 -- whether the text is a method descriptor
 abbrev pub is_descriptor : List ℕ → Bool

@@ -3,7 +3,7 @@ ghost use Rattle.std.specs.Prelude.{◌≡◌, ◌-◌, ◌^◌, ◌≤◌, ◌<
 ghost use Rattle.fcg_views.specs.Internal.DescriptorBounds.{IsSmall};
 ghost use Rattle.fcg_views.specs.Internal.ClassSteps.{class_step, LeadsTo};
 ghost use Rattle.fcg_views.specs.Descriptor.{Spans, FaultAt, IsFieldDescriptor, FieldFaultAt, is_letter, letter_units};
-ghost use Rattle.fcg_views.specs.DescriptorSteps.{taken, parameter_step, array_step, name_step, result_step, result_array_step, result_name_step, step, fault_at, ended, scan_from, told, descriptor_of, begins_with_void, field_descriptor_of, is_field_descriptor};
+ghost use Rattle.fcg_views.specs.DescriptorSteps.{taken, parameter_step, array_step, name_step, result_step, result_array_step, result_name_step, step, fault_at, ended, scan_from, result_of_scan, descriptor_of, begins_with_void, field_descriptor_of, is_field_descriptor};
 
 use crate::parting::find_byte;
 
@@ -289,7 +289,7 @@ fn scan_from(start: DescState, text: &[u8]) -> Result<DescState, usize>
 // What a text says that is read from a state on.
 fn read_from(start: DescState, text: &[u8]) -> Result<DescSpan, DescFault>
     requires { IsSmall start }
-    ensures { result ≡ told (length text.now) (scan_from 0 start text.now) }
+    ensures { result ≡ result_of_scan (length text.now) (scan_from 0 start text.now) }
 {
     match scan_from(start, text) {
         Ok(state) => ended(state, text.len()),

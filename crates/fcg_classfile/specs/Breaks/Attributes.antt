@@ -46,29 +46,29 @@ attributes_at pool at = do
 -- ==== attributes of which one of a name is read, and the others are passed over
 
 -- where the next attribute stands; and of the one that was read its place, and what it says
-pub record OneBegun (X : Type 0) : Type 0 where
+pub record AttributesBefore (X : Type 0) : Type 0 where
   pub at : ℕ
   pub read : Option (ℕ × X)
 
 -- the name, the rule that a second one breaks, and what stands from a place up to the end of the content
 module _ {X : Type 0} (word : List ℕ) (twice : ClassRule) (said_at : Entries → ℕ → Result X ClassFault) where
-  unfoldable pub one_read_at : Entries → OneBegun X → Result (Unit {0} × OneBegun X) ClassFault
-  one_read_at pool begun = do
-    once ← unless_broken (is_none begun.read) (fault begun.at 0 twice)
-    after ← content_at pool begun.at
-    x ← said_at (up_to after pool) (begun.at + 6)
-    Ok (tt, record { at = after; read = Some (begun.at, x) })
+  unfoldable pub one_read_at : Entries → AttributesBefore X → Result (Unit {0} × AttributesBefore X) ClassFault
+  one_read_at pool before = do
+    once ← unless_broken (is_none before.read) (fault before.at 0 twice)
+    after ← content_at pool before.at
+    x ← said_at (up_to after pool) (before.at + 6)
+    Ok (tt, record { at = after; read = Some (before.at, x) })
 
-  abbrev pub other_at : Entries → OneBegun X → Result (Unit {0} × OneBegun X) ClassFault
-  other_at pool begun = content_at pool begun.at >>= λ after. Ok (tt, record { at = after; read = begun.read })
+  abbrev pub other_at : Entries → AttributesBefore X → Result (Unit {0} × AttributesBefore X) ClassFault
+  other_at pool before = content_at pool before.at >>= λ after. Ok (tt, record { at = after; read = before.read })
 
-  unfoldable pub one_at : Entries → ℕ → OneBegun X → Result (Unit {0} × OneBegun X) ClassFault
-  one_at pool k begun = do
-    name ← text_at pool begun.at
-    if is_same name word then one_read_at pool begun else other_at pool begun
+  unfoldable pub one_at : Entries → ℕ → AttributesBefore X → Result (Unit {0} × AttributesBefore X) ClassFault
+  one_at pool k before = do
+    name ← text_at pool before.at
+    if is_same name word then one_read_at pool before else other_at pool before
 
   -- the attributes whose count stands at a place
-  unfoldable pub ones_at : Entries → ℕ → Result (OneBegun X) ClassFault
+  unfoldable pub ones_at : Entries → ℕ → Result (AttributesBefore X) ClassFault
   ones_at pool at = do
     n ← u2_at pool.bytes at 0
     ended (rows (one_at pool) n 0 (record { at = at + 2; read = None }))

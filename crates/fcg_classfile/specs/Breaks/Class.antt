@@ -20,7 +20,7 @@ use Rattle.fcg_classfile.specs.Breaks.Members.{fields_at, methods_at, all_finish
 unfoldable pub header_kept : List ℕ → Result (Unit {0}) ClassFault
 header_kept bytes = do
   magic ← u4_at bytes 0 0
-  begun ← unless_broken (magic == 0xcafebabe) (fault 0 0 Magic)
+  kept ← unless_broken (magic == 0xcafebabe) (fault 0 0 Magic)
   minor ← u2_at bytes 4 0
   major ← u2_at bytes 6 0
   unless_broken (nat_le 45 major && nat_le major 65) (fault 6 0 Version)

@@ -52,13 +52,13 @@ next_at code at = do
   op ← u1_at CodeCut code at
   formed_at code at (form_of op)
 
--- the number of the two bytes after the opcode, where so many follow it in all its uses, else 0
+-- the number of the two bytes after the opcode, where an instruction of the form has so many, else 0
 abbrev pub operand_in : List ℕ → ℕ → Option Form → ℕ
 operand_in code at None = 0
 operand_in code at (Some (Fixed n)) = if nat_le 2 n then number.u2 code (at + 1) else 0
-operand_in code at (Some Table) = 0
-operand_in code at (Some Lookup) = 0
-operand_in code at (Some Wide) = 0
+operand_in code at (Some Table) = number.u2 code (at + 1)
+operand_in code at (Some Lookup) = number.u2 code (at + 1)
+operand_in code at (Some Wide) = number.u2 code (at + 1)
 
 abbrev pub operand_at : List ℕ → ℕ → ℕ
 operand_at code at = operand_in code at (form_of (slice_index code at))

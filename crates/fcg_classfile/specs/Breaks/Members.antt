@@ -73,18 +73,18 @@ unfinished d None = (method_of d [], record { begin = 0; calls = [] })
 unfinished d (Some (at, x)) = (method_of d x.sites, record { begin = at + 14; calls = x.calls })
 
 -- where the next method stands, and the methods before it
-pub record Begun : Type 0 where
+pub record MethodsBefore : Type 0 where
   pub at : ℕ
   pub earlier : List Method
 
 -- a method whose name and descriptor no earlier one has, and its attributes
-unfoldable pub method_at : Entries → ℕ → Begun → Result (Unfinished × Begun) ClassFault
-method_at pool k begun = do
-  declared ← declared_at pool is_descriptor begun.at
-  fresh ← unless_broken (not (list_any (λ earlier. is_alike earlier (method_of declared [])) begun.earlier)) (fault begun.at 0 DoubleMethod)
-  read ← ones_at (codes "Code") DoubleCode (code_at (site_count begun.earlier)) pool (begun.at + 6)
+unfoldable pub method_at : Entries → ℕ → MethodsBefore → Result (Unfinished × MethodsBefore) ClassFault
+method_at pool k before = do
+  declared ← declared_at pool is_descriptor before.at
+  fresh ← unless_broken (not (list_any (λ earlier. is_alike earlier (method_of declared [])) before.earlier)) (fault before.at 0 DoubleMethod)
+  read ← ones_at (codes "Code") DoubleCode (code_at (site_count before.earlier)) pool (before.at + 6)
   method ← Ok (unfinished declared read.read)
-  Ok (method, record { at = read.at; earlier = begun.earlier ++ method.0 ∷ [] })
+  Ok (method, record { at = read.at; earlier = before.earlier ++ method.0 ∷ [] })
 
 -- the methods whose count stands at a place, and the place after them
 unfoldable pub methods_at : Entries → ℕ → Result (List Unfinished × ℕ) ClassFault

@@ -5,9 +5,6 @@ use Rattle.fcg_classfile.specs.declared.fault.ClassFault.{ClassFault}
 use Rattle.fcg_classfile.specs.declared.fault.ClassRule.TheVariants.{Cut}
 use Rattle.fcg_classfile.specs.Breaks.Fault.{fault}
 
-abbrev pub u1_at : List ℕ → ℕ → ℕ → Result ℕ ClassFault
-u1_at bytes at index = number.u1_at (fault at index Cut) bytes at
-
 abbrev pub u2_at : List ℕ → ℕ → ℕ → Result ℕ ClassFault
 u2_at bytes at index = number.u2_at (fault at index Cut) bytes at
 

@@ -14,6 +14,13 @@ abbrev pub form_seen : Option Layout → Option Form
 form_seen None = None
 form_seen (Some layout) = Some (form_in layout)
 
+-- how many bytes follow the opcode at least
+abbrev pub least_after : Layout → ℕ
+least_after (layouts.Fixed n) = n
+least_after layouts.Table = 2
+least_after layouts.Lookup = 2
+least_after layouts.Wide = 2
+
 -- the form that a number of the table tells
 abbrev pub form_told : ℕ → Option Form
 form_told n =

@@ -4,4 +4,4 @@ use Rattle.fcg_partial.specs.Views.{names_of_field}
 use Rattle.fcg_partial.proofs.intern.push_field_names.Given as goal
 
 abbrev pub invariant-loop-field : goal.invariant-loop-field
-invariant-loop-field l = l.names.items ≡ l.fn.names.items ++ flat_map names_of_field (take l.field-index l.fields)
+invariant-loop-field l = l.names ≡ l.fn.names ++ flat_map names_of_field (take l.field-index l.fields)

@@ -1,6 +1,6 @@
 use Rattle.std.proofs.Common.{◌≡◌, ◌++◌, take}
 use Rattle.std.specs.List.{flat_map}
-use Rattle.fcg_partial.specs.Written.{site_rows}
+use Rattle.fcg_partial.specs.Internal.Written.{site_rows}
 use Rattle.fcg_partial.proofs.intern.push_site_rows.Given as goal
 
 abbrev pub invariant-loop-site : goal.invariant-loop-site

@@ -1,6 +1,6 @@
 use Rattle.std.proofs.lemmas.List.Elements.{recursion_from_All}
 use Rattle.fcg_views.specs.Valid.{IsValid}
-use Rattle.fcg_partial.specs.Written.{IsSmallView}
+use Rattle.fcg_partial.specs.SmallNumbers.{IsSmallView}
 use Rattle.fcg_partial.proofs.GraphOfViews.{graph_is}
 use Rattle.fcg_partial.proofs.OneSpelling.{graph_back}
 use Rattle.fcg_partial.proofs.ViewLaws.{views_back}

@@ -1,7 +1,7 @@
 use Rattle.std.proofs.Common.{◌≡◌, ◌+◌, ◌*◌, ℕ, length, refl, sym, ap, ◌∙◌}
 use Rattle.std.specs.Prelude.{Ok}
 use Rattle.fcg_partial.specs.Fault.{u2_at}
-use Rattle.fcg_partial.specs.Accessors.{super_of}
+use Rattle.fcg_partial.specs.Internal.StandingRows.{super_of}
 use Rattle.fcg_partial.proofs.RowParts.{type_parts}
 use Rattle.fcg_partial.proofs.row.load_type.Goals as goal
 

@@ -1,4 +1,5 @@
-use Rattle.fcg_partial.specs.Written.{IsSmallField, written_field}
+use Rattle.fcg_partial.specs.SmallNumbers.{IsSmallField}
+use Rattle.fcg_partial.specs.Internal.Written.{written_field}
 use Rattle.fcg_partial.proofs.WrittenLaws.{text_more, all_more}
 use Rattle.fcg_partial.proofs.write.push_fields.Goals as goal
 

@@ -1,6 +1,7 @@
 use Rattle.std.proofs.Common.{◌≡◌, ◌++◌, take, All}
 use Rattle.std.specs.List.{flat_map}
-use Rattle.fcg_partial.specs.Written.{written_field, IsSmallField}
+use Rattle.fcg_partial.specs.SmallNumbers.{IsSmallField}
+use Rattle.fcg_partial.specs.Internal.Written.{written_field}
 use Rattle.fcg_partial.proofs.write.push_fields.Given as goal
 
 abbrev pub invariant-loop-field : goal.invariant-loop-field

@@ -1,5 +1,5 @@
 use Rattle.std.proofs.Common.{append_assoc}
-use Rattle.fcg_partial.specs.Written.{written_method}
+use Rattle.fcg_partial.specs.Internal.Written.{written_method}
 use Rattle.fcg_partial.proofs.write.push_method.Goals as goal
 
 pub returns-clause-text : goal.returns-clause-text

@@ -1,4 +1,5 @@
-use Rattle.fcg_partial.specs.Written.{IsSmallMethod, written_method}
+use Rattle.fcg_partial.specs.SmallNumbers.{IsSmallMethod}
+use Rattle.fcg_partial.specs.Internal.Written.{written_method}
 use Rattle.fcg_partial.proofs.WrittenLaws.{text_more, all_more}
 use Rattle.fcg_partial.proofs.write.push_methods.Goals as goal
 

@@ -1,6 +1,7 @@
 use Rattle.std.proofs.Common.{◌≡◌, ◌++◌, take, All}
 use Rattle.std.specs.List.{flat_map}
-use Rattle.fcg_partial.specs.Written.{written_method, IsSmallMethod}
+use Rattle.fcg_partial.specs.SmallNumbers.{IsSmallMethod}
+use Rattle.fcg_partial.specs.Internal.Written.{written_method}
 use Rattle.fcg_partial.proofs.write.push_methods.Given as goal
 
 abbrev pub invariant-loop-method : goal.invariant-loop-method

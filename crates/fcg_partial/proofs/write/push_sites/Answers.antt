@@ -1,4 +1,5 @@
-use Rattle.fcg_partial.specs.Written.{IsSmallSite, written_site}
+use Rattle.fcg_partial.specs.SmallNumbers.{IsSmallSite}
+use Rattle.fcg_partial.specs.Internal.Written.{written_site}
 use Rattle.fcg_partial.proofs.WrittenLaws.{text_more, all_more}
 use Rattle.fcg_partial.proofs.write.push_sites.Goals as goal
 

@@ -1,6 +1,7 @@
 use Rattle.std.proofs.Common.{◌≡◌, ◌++◌, take, All}
 use Rattle.std.specs.List.{flat_map}
-use Rattle.fcg_partial.specs.Written.{written_site, IsSmallSite}
+use Rattle.fcg_partial.specs.SmallNumbers.{IsSmallSite}
+use Rattle.fcg_partial.specs.Internal.Written.{written_site}
 use Rattle.fcg_partial.proofs.write.push_sites.Given as goal
 
 abbrev pub invariant-loop-site : goal.invariant-loop-site

@@ -1,4 +1,5 @@
-use Rattle.fcg_partial.specs.Written.{IsSmallView, written_type}
+use Rattle.fcg_partial.specs.SmallNumbers.{IsSmallView}
+use Rattle.fcg_partial.specs.Internal.Written.{written_type}
 use Rattle.fcg_partial.proofs.WrittenLaws.{text_more, all_more}
 use Rattle.fcg_partial.proofs.write.push_types.Goals as goal
 

@@ -1,6 +1,7 @@
 use Rattle.std.proofs.Common.{◌≡◌, ◌++◌, take, All}
 use Rattle.std.specs.List.{flat_map}
-use Rattle.fcg_partial.specs.Written.{written_type, IsSmallView}
+use Rattle.fcg_partial.specs.SmallNumbers.{IsSmallView}
+use Rattle.fcg_partial.specs.Internal.Written.{written_type}
 use Rattle.fcg_partial.proofs.write.push_types.Given as goal
 
 abbrev pub invariant-loop-view : goal.invariant-loop-view

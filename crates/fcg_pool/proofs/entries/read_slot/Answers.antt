@@ -1,6 +1,6 @@
 use Rattle.std.proofs.Common.{sym}
 use Rattle.fcg_pool.specs.Internal.Entry.{constant_seen}
-use Rattle.fcg_pool.specs.CodeValues.{next_of}
+use Rattle.fcg_pool.specs.Internal.Entry.{next_of}
 use Rattle.fcg_pool.proofs.ConstantLemmas.{constant_found, slot_is}
 use Rattle.fcg_pool.proofs.entries.read_slot.Goals as goal
 

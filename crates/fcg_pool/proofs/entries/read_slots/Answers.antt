@@ -3,8 +3,8 @@ use Rattle.std.proofs.lemmas.List.{map-append}
 use Rattle.std.proofs.lemmas.Result.{err_from_is_err_and}
 use Rattle.std.proofs.lemmas.List.Elements.{All-push}
 use Rattle.fcg_classfile.specs.Breaks.Pool.{slot_at}
-use Rattle.fcg_pool.specs.ConstantAt.{slot_in, IsInside}
-use Rattle.fcg_pool.specs.CodeValues.{next_of}
+use Rattle.fcg_pool.specs.Internal.ConstantAt.{slot_in, IsInside}
+use Rattle.fcg_pool.specs.Internal.Entry.{next_of}
 use Rattle.fcg_grammar.proofs.RowLemmas.{rows_go_on, rows_end, rows_done}
 use Rattle.fcg_pool.proofs.entries.read_slots.Goals as goal
 

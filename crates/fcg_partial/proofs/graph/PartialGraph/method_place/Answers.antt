@@ -1,5 +1,5 @@
 use Rattle.std.proofs.Common.{rules, ◌≡◌, ◌+◌, ◌<◌, ℕ, List, length, get_or, sym, ap, subst, ◌∙◌}
-use Rattle.fcg_partial.specs.Accessors.{IsMethodAt}
+use Rattle.fcg_partial.specs.Internal.StandingRows.{IsMethodAt}
 use Rattle.fcg_partial.proofs.AccessLaws.{text_is, method_there}
 use Rattle.fcg_partial.proofs.graph.PartialGraph.method_place.Goals as goal
 

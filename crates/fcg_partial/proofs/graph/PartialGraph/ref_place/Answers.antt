@@ -1,5 +1,5 @@
 use Rattle.std.proofs.Common.{◌+◌, ◌*◌, ℕ, List, subst, arith}
-use Rattle.fcg_partial.specs.Accessors.{IsRefAt}
+use Rattle.fcg_partial.specs.Internal.StandingRows.{IsRefAt}
 use Rattle.fcg_partial.proofs.AccessLaws.{text_is, ref_there, refs_small}
 use Rattle.fcg_partial.proofs.graph.PartialGraph.ref_place.Goals as goal
 

@@ -1,5 +1,5 @@
 use Rattle.std.proofs.Common.{rules, ℕ, List, sym, subst}
-use Rattle.fcg_partial.specs.Accessors.{IsTypeAt}
+use Rattle.fcg_partial.specs.Internal.StandingRows.{IsTypeAt}
 use Rattle.fcg_partial.proofs.AccessLaws.{text_is, type_there}
 use Rattle.fcg_partial.proofs.graph.PartialGraph.type_place.Goals as goal
 

@@ -1,7 +1,7 @@
 use Rattle.std.proofs.Common.{sym, ◌∙◌, ◌+◌, None}
 use Rattle.std.proofs.lemmas.Result.{err_from_is_err_and}
 use Rattle.fcg_classfile.specs.Breaks.Pool.{slot_kept}
-use Rattle.fcg_pool.specs.ConstantAt.{slot_in}
+use Rattle.fcg_pool.specs.Internal.ConstantAt.{slot_in}
 use Rattle.fcg_grammar.proofs.RowLemmas.{each_goes_on, each_ends}
 use Rattle.fcg_pool.proofs.PlaceLemmas.{kept_at, inside_slots}
 use Rattle.fcg_pool.proofs.pool.Pool.check.Goals as goal

@@ -1,7 +1,7 @@
 use Rattle.std.proofs.Common.{◌∙◌, sym, ap}
 use Rattle.std.specs.Prelude.{Ok, Some}
 use Rattle.fcg_classfile.specs.Breaks.Pool.{Entries, in_slot}
-use Rattle.fcg_pool.specs.ConstantAt.{slot_in, constant_in}
+use Rattle.fcg_pool.specs.Internal.ConstantAt.{slot_in, constant_in}
 use Rattle.fcg_pool.proofs.PlaceLemmas.{constant_known}
 use Rattle.fcg_pool.proofs.pool.Pool.place.Goals as goal
 

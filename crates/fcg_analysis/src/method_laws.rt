@@ -1,0 +1,54 @@
+//! Laws of the nodes, and of the methods that a type has from the interfaces above it.
+ghost use Rattle.std.specs.Prelude.{◌≡◌, ◌↔◌, ◌≤◌, ℕ, true, List, [], ◌∷◌, ◌++◌, Contains, filter, length, not, Some, None, is_some};
+ghost use Rattle.std.specs.List.{IsDistinct, list_any};
+ghost use Rattle.fcg_views.specs.declared.view.Method.{Method};
+ghost use Rattle.fcg_views.specs.Valid.{is_alike};
+ghost use Rattle.fcg_analysis.specs.Declarations.{Placed, Signature, signature_of, has_signature, is_type, is_abstract};
+ghost use Rattle.fcg_analysis.specs.Nodes.{Node, nodes, nodes_from, is_node, identity, declared, super_methods, specific, one_default, first_super_method};
+ghost use Rattle.fcg_analysis.specs.Laws.Statements.{IsAcyclic};
+ghost use Rattle.fcg_analysis.specs.Laws.Methods.{methods_of, IsMethodNode, IsSingle, IsSuperMethod, IsMaximal, HasSpecific, SameInterfaces};
+
+/// The nodes are the methods of the types; two of one number are one; and the numbers go on from type to type.
+pub fn nodes_are_methods()
+    ensures owners { (types : List Placed) (m : Node) → Contains (nodes types) m → Contains types m.owner × Contains m.owner.view.methods m.method }
+    ensures there { (types : List Placed) (t : Placed) (m : Method) → Contains types t → Contains t.view.methods m → IsMethodNode types t m }
+    ensures one { (types : List Placed) (m n : Node) → Contains (nodes types) m → Contains (nodes types) n → is_node m n ≡ true → m ≡ n }
+    ensures go_on { (ts us : List Placed) → nodes (ts ++ us) ≡ nodes ts ++ nodes_from (length (nodes ts)) (methods_of us) }
+{}
+
+/// Where no view has two methods of one name and descriptor, as no valid view has, no type has two such nodes; and then no two
+/// nodes have one identity.
+pub fn identities_are_distinct()
+    ensures of_valid_views { (types : List Placed) → IsDistinct is_type types → ((t : Placed) → Contains types t → IsDistinct is_alike t.view.methods) → IsSingle types }
+    ensures distinct { (types : List Placed) → IsDistinct is_type types → IsSingle types → (m n : Node) → Contains (nodes types) m → Contains (nodes types) n → identity m ≡ identity n → m ≡ n }
+{}
+
+/// A declared method is one of the type's own, it is there where the type has one of the signature, and it is the only one.
+pub fn declared_methods_are_own()
+    ensures found { (types : List Placed) → IsDistinct is_type types → (t : Placed) (s : Signature) (m : Node) → Contains types t → declared types s t ≡ Some m → (m.owner ≡ t) × Contains (nodes types) m × (has_signature s m.method ≡ true) }
+    ensures there { (types : List Placed) → IsDistinct is_type types → (t : Placed) (s : Signature) → Contains types t → is_some (declared types s t) ≡ list_any (has_signature s) t.view.methods }
+    ensures only { (types : List Placed) → IsDistinct is_type types → IsSingle types → (m : Node) → Contains (nodes types) m → declared types (signature_of m.method) m.owner ≡ Some m }
+{}
+
+/// The superinterface methods are those of the interfaces above, and depend on these alone.
+pub fn superinterface_methods_are_above()
+    ensures members { (types : List Placed) → IsDistinct is_type types → (t : Placed) (s : Signature) (m : Node) → Contains (super_methods types t s) m ↔ IsSuperMethod types t s m }
+    ensures alike { (types : List Placed) (t u : Placed) → SameInterfaces types t u → (s : Signature) → super_methods types t s ≡ super_methods types u s }
+    ensures same_default { (types : List Placed) (t u : Placed) → SameInterfaces types t u → (s : Signature) → one_default types t s ≡ one_default types u s }
+{}
+
+/// The maximally-specific methods are those of JVMS 5.4.3.3: no other maximally-specific method is declared in an interface
+/// below. And of each superinterface method there is a maximally-specific one, which it is or which is declared in an interface
+/// below.
+pub fn maximally_specific_as_in_jvms()
+    ensures alike { (types : List Placed) → IsAcyclic types → IsDistinct is_type types → (t : Placed) (s : Signature) (m : Node) → Contains (specific types t s) m ↔ IsMaximal types t s m }
+    ensures there { (types : List Placed) → IsAcyclic types → IsDistinct is_type types → (t : Placed) (s : Signature) (m : Node) → Contains (super_methods types t s) m → HasSpecific types t s m }
+{}
+
+/// The one default is the only maximally-specific method that isn't abstract; the first superinterface method is the one of
+/// least number; and where there is none there is no default.
+pub fn one_default_is_the_only()
+    ensures only { (types : List Placed) (t : Placed) (s : Signature) (m : Node) → one_default types t s ≡ Some m ↔ (filter (λ n. not (is_abstract n.method)) (specific types t s) ≡ m ∷ []) }
+    ensures first_one { (types : List Placed) (t : Placed) (s : Signature) (m n : Node) → first_super_method types t s ≡ Some m → Contains (super_methods types t s) n → m.number ≤ n.number }
+    ensures none { (types : List Placed) (t : Placed) (s : Signature) → first_super_method types t s ≡ None → one_default types t s ≡ None }
+{}

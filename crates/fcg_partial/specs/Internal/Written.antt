@@ -1,0 +1,78 @@
+-- What is collected from the views, and what is written of them with the numbers of two tables, view by view.
+use Rattle.std.specs.Prelude.{ℕ, List, ◌++◌, ◌∷◌, [], ◌<◌, ◌^◌, length, All}
+use Rattle.std.specs.List.{flat_map}
+use Rattle.fcg_grammar.specs.Spell.{u2, u4}
+use Rattle.fcg_views.specs.declared.view.View.{View}
+use Rattle.fcg_views.specs.declared.view.Method.{Method}
+use Rattle.fcg_views.specs.declared.view.Field.{Field}
+use Rattle.fcg_views.specs.declared.view.Site.{Site}
+use Rattle.fcg_partial.specs.Graph.{kind_number, name_text, ref_text, super_number}
+use Rattle.fcg_partial.specs.Views.{names_of_ref, names_of_super, names_of_field, ref_row, super_number_of}
+use Rattle.fcg_grammar.specs.Table.{place, Rises}
+
+-- ---- the names, each as often as it stands, in the order in which the types are written
+abbrev pub site_names : Site → List (List ℕ)
+site_names s = names_of_ref s.target
+
+abbrev pub collected_of_method : Method → List (List ℕ)
+collected_of_method m = m.name ∷ m.desc ∷ flat_map site_names m.sites
+
+abbrev pub collected_of_view : View → List (List ℕ)
+collected_of_view v = v.name ∷ (names_of_super v.superclass ++ (v.interfaces ++ (flat_map names_of_field v.fields ++ flat_map collected_of_method v.methods)))
+
+abbrev pub collected : List View → List (List ℕ)
+collected views = flat_map collected_of_view views
+
+-- ---- the rows of the references that sites name
+abbrev pub site_rows : List (List ℕ) → Site → List (List ℕ)
+site_rows names s = ref_row names s.target ∷ []
+
+abbrev pub method_rows : List (List ℕ) → Method → List (List ℕ)
+method_rows names m = flat_map (site_rows names) m.sites
+
+abbrev pub view_rows : List (List ℕ) → View → List (List ℕ)
+view_rows names v = flat_map (method_rows names) v.methods
+
+-- ---- the texts
+abbrev pub written_site : List (List ℕ) → List (List ℕ) → Site → List ℕ
+written_site names refs s = u2 s.pc ++ (kind_number s.kind ∷ u4 (place refs (ref_row names s.target)))
+
+abbrev pub written_field : List (List ℕ) → Field → List ℕ
+written_field names f = u4 (place names f.name) ++ (u4 (place names f.desc) ++ u2 f.flags)
+
+unfoldable pub written_method : List (List ℕ) → List (List ℕ) → Method → List ℕ
+written_method names refs m = u4 (place names m.name) ++ (u4 (place names m.desc) ++ (u2 m.flags ++ (u4 (length m.sites) ++ flat_map (written_site names refs) m.sites)))
+
+abbrev pub written_name : List (List ℕ) → List ℕ → List ℕ
+written_name names name = u4 (place names name)
+
+unfoldable pub written_head : List (List ℕ) → View → List ℕ
+written_head names v = u4 (place names v.name) ++ (u2 v.flags ++ (u4 (super_number (super_number_of names v.superclass)) ++ (u2 (length v.interfaces) ++ flat_map (written_name names) v.interfaces)))
+
+unfoldable pub written_members : List (List ℕ) → List (List ℕ) → View → List ℕ
+written_members names refs v = u2 (length v.fields) ++ (flat_map (written_field names) v.fields ++ (u2 (length v.methods) ++ flat_map (written_method names refs) v.methods))
+
+unfoldable pub written_type : List (List ℕ) → List (List ℕ) → View → List ℕ
+written_type names refs v = written_head names v ++ written_members names refs v
+
+unfoldable pub written_tables : List (List ℕ) → List (List ℕ) → List ℕ
+written_tables names refs = u4 0x46434752 ++ (u2 1 ++ (u4 (length names) ++ (flat_map name_text names ++ (u4 (length refs) ++ flat_map ref_text refs))))
+
+unfoldable pub written : List (List ℕ) → List (List ℕ) → List View → List ℕ
+written names refs views = written_tables names refs ++ (u4 (length views) ++ flat_map (written_type names refs) views)
+
+-- ---- what is asked of them, so that each number has room
+pub record AreTables (names refs : List (List ℕ)) : Type 0 where
+  pub names_rise : Rises names
+  pub few_names : length names < 2 ^ 32
+  pub refs_rise : Rises refs
+  pub few_refs : length refs < 2 ^ 32
+
+abbrev pub HasFewSites : Method → Type 0
+HasFewSites m = length m.sites < 2 ^ 32
+
+pub record HasCounts (v : View) : Type 0 where
+  pub interfaces : length v.interfaces < 2 ^ 16
+  pub fields : length v.fields < 2 ^ 16
+  pub methods : length v.methods < 2 ^ 16
+  pub sites : All HasFewSites v.methods

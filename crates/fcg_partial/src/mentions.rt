@@ -1,0 +1,159 @@
+//! The names that are collected of some views, each as often as it stands.
+ghost use Rattle.std.specs.Prelude.{◌≡◌, ◌++◌, ◌∷◌, [], length, OnOk, OnErr, IfOk, IfSome};
+ghost use Rattle.fcg_grammar.specs.Table.{table};
+ghost use Rattle.fcg_partial.specs.Internal.Mentions.{IsTextOf, Extends};
+
+use crate::intern::is_text;
+use fcg_views::Name;
+use std::alloc::{AllocError, Global};
+use std::collections::BTreeMap;
+use std::hash::{DefaultHasher, Hash, Hasher};
+use std::marker::Model;
+
+// The texts of names. A name is looked for first by its place in the block of its class file, then by a hash of its bytes,
+// and is compared once with what is found. So the bytes of a text are hashed once in each class; and a text stands twice
+// only where another one has its hash, so that the time has a bound also where a stranger chooses the texts.
+#[derive(Drop)]
+struct Texts {
+    items: Vec<Name>,
+    by_place: BTreeMap<(u32, u32), u32>,
+    by_hash: BTreeMap<u64, u32>,
+}
+
+fn hash_of(name: &Name) -> u64 {
+    let mut hasher = DefaultHasher::new();
+    name.hash(&mut hasher);
+    hasher.finish()
+}
+
+impl Texts {
+    fn find_by_place(&self, name: &Name) -> Option<u32>
+        ensures { IfSome result (λ n. IsTextOf self.now.items.items n name.now) }
+    {
+        let number = *self.by_place.get(&name.place())?;
+        if is_text(&self.items, number, name) {
+            Some(number)
+        } else {
+            None
+        }
+    }
+
+    fn find_by_hash(&self, name: &Name, hash: u64) -> Option<u32>
+        ensures { IfSome result (λ n. IsTextOf self.now.items.items n name.now) }
+    {
+        let number = *self.by_hash.get(&hash)?;
+        if is_text(&self.items, number, name) {
+            Some(number)
+        } else {
+            None
+        }
+    }
+
+    // Adds a name with its hash. The number of its text is at most the last one, of which no name is the text.
+    fn add(&mut self, name: &Name, hash: u64) -> Result<u32, AllocError>
+        ensures ok { IfOk result (λ n. Extends self.old.items.items self.new.items.items name.now n) }
+        ensures err { OnErr result (self.new.items.items ≡ self.old.items.items) }
+    {
+        let Ok(number) = u32::try_from(self.items.len()) else {
+            return Err(AllocError);
+        };
+        let copy = name.clone()?;
+        self.by_place.insert(name.place(), number)?;
+        self.by_hash.insert(hash, number)?;
+        self.items.push(copy)?;
+        Ok(number)
+    }
+
+    // The number of a name's text, which is added where it isn't there.
+    fn number(&mut self, name: &Name) -> Result<u32, AllocError>
+        ensures ok { IfOk result (λ n. Extends self.old.items.items self.new.items.items name.now n) }
+        ensures err { OnErr result (self.new.items.items ≡ self.old.items.items) }
+    {
+        if let Some(number) = self.find_by_place(name) {
+            return Ok(number);
+        }
+        let hash = hash_of(name);
+        match self.find_by_hash(name, hash) {
+            Some(number) => {
+                self.by_place.insert(name.place(), number)?;
+                Ok(number)
+            }
+            None => self.add(name, hash),
+        }
+    }
+}
+
+/// The names that were collected, each by the number of a text, in their order.
+#[derive(Drop)]
+pub(crate) struct Mentions {
+    texts: Texts,
+    numbers: Vec<u32>,
+}
+
+impl Model for Mentions {
+    ghost use Rattle.std.specs.Prelude.{ℕ, List, map};
+    ghost use Rattle.fcg_partial.specs.Views.{name_in};
+    ghost use Rattle.fcg_partial.specs.Internal.Mentions.{AreMentions};
+
+    ghost Value = { List (List ℕ) };
+
+    ghost view = { λ m. map (name_in m.texts.items.items) m.numbers.items };
+
+    ghost invariant = { λ m. AreMentions m.texts.items.items m.numbers.items };
+}
+
+impl Mentions {
+    pub(crate) fn new(alloc: Global) -> Mentions
+        ensures { result ≡ [] }
+    {
+        Mentions {
+            texts: Texts {
+                items: Vec::new(alloc),
+                by_place: BTreeMap::new(alloc),
+                by_hash: BTreeMap::new(alloc),
+            },
+            numbers: Vec::new(alloc),
+        }
+    }
+
+    // Forgets where the names of the last class stand.
+    pub(crate) fn forget_places(&mut self)
+        ensures { self.new ≡ self.old }
+    {
+        self.texts.by_place.clear();
+    }
+
+    pub(crate) fn push(&mut self, name: &Name) -> Result<(), AllocError>
+        ensures { OnOk result (self.new ≡ self.old ++ name.now ∷ []) }
+    {
+        self.numbers.reserve(1)?;
+        let number = self.texts.number(name)?;
+        self.numbers.push(number).unwrap();
+        Ok(())
+    }
+
+    pub(crate) fn texts(&self) -> &[Name] {
+        self.texts.items.as_slice()
+    }
+
+    // A copy of the texts, which are those of the names.
+    pub(crate) fn copy_texts(&self, alloc: Global) -> Result<Vec<Name>, AllocError>
+        ensures { IfOk result (λ texts. table texts.items ≡ table self.now) }
+    {
+        let texts = self.texts.items.as_slice();
+        let mut copy = Vec::with_capacity(alloc, texts.len())?;
+        for text in texts {
+            copy.push(text.clone()?)?;
+        }
+        Ok(copy)
+    }
+
+    // For each name the number that its text has among these.
+    pub(crate) fn renumbered(self, numbers: &[u32]) -> Vec<u32> {
+        let mut own = self.numbers;
+        for i in 0..own.len() {
+            own[i] = numbers.get(own[i] as usize).copied().unwrap_or(0);
+        }
+        own
+    }
+}

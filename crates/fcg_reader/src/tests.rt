@@ -1,3 +1,0 @@
-//! Handle sites, by private functions.
-
-mod handles;

@@ -6,7 +6,7 @@ ghost use Rattle.fcg_analysis.specs.Types.{known};
 ghost use Rattle.fcg_analysis.specs.Resolution.{KindMismatch, NoSuchMethod, resolved};
 ghost use Rattle.fcg_analysis.specs.Edges.{IsMethod, IsPhantom, IsFailed, edges, statuses};
 ghost use Rattle.fcg_analysis.specs.Cases.ShortForm.{number_in, overrides, method_ref, interface_ref};
-ghost use Rattle.fcg_analysis.specs.Cases.Conditions.{overloads, inner_packages, gap_of_interface_above, named_above, class_beside_receiver, phantom_of_known, own_before_object, interface_below_beside, interface_of_superclass, found_in_interfaces, private_above, private_of_interface, class_before_default, phantom_by_name, object_below_phantom, special_object_at_the_end, special_superclass_default, absent_init, special_absent_interface, gap_above, static_below_absent, default_below_absent, class_beside_default, special_mismatch, special_absent_method, special_interface_ref, special_own, special_default, special_object_first, interface_init, static_call_of_instance, array_kinds};
+ghost use Rattle.fcg_analysis.specs.Cases.Conditions.{overloads, inner_packages, gap_of_interface_above, named_above, class_beside_receiver, phantom_of_known, own_before_object, interface_below_beside, interface_of_superclass, found_in_interfaces, default_of_interface_below, private_above, private_of_interface, class_before_default, phantom_by_name, object_below_phantom, special_object_at_the_end, special_superclass_default, absent_init, special_absent_interface, gap_above, static_below_absent, default_below_absent, class_beside_default, special_mismatch, special_absent_method, special_interface_ref, special_own, special_default, special_object_first, interface_init, static_call_of_instance, array_kinds};
 
 /// Methods of one name are told apart by their descriptors.
 pub fn overloads_case()
@@ -66,6 +66,11 @@ pub fn found_in_interfaces_case()
     ensures class_first { number_in (resolved (known found_in_interfaces) (method_ref "p/A" "n" "()V")) ≡ Some 1 }
     ensures interface_default { number_in (resolved (known found_in_interfaces) (interface_ref "p/L" "m" "()V")) ≡ Some 2 }
     ensures interface_first { number_in (resolved (known found_in_interfaces) (interface_ref "p/L" "n" "()V")) ≡ Some 1 }
+{}
+
+/// The default that is selected is the receiver's, not the one that is resolved.
+pub fn default_of_interface_below_case()
+    ensures edges { edges (known default_of_interface_below) ≡ (2, 1) ∷ [] }
 {}
 
 /// No method overrides a private one.

@@ -115,6 +115,15 @@ found_in_interfaces = release "g:a:1" (
 
 -- ---- Overriding and selection
 
+-- a default that is called by its interface, and one of an interface below that
+abbrev pub default_of_interface_below : List Placed
+default_of_interface_below = release "g:a:1" (
+    interface_of "p/I" [] (m ∷ [])
+    ∷ interface_of "p/J" ("p/I" ∷ []) (m ∷ [])
+    ∷ class_with "java/lang/Object" ("p/J" ∷ []) "p/A" []
+    ∷ caller (interface_call Interface "p/I" "m" "()V" ∷ [])
+    ∷ [])
+
 -- a private method, and one of its name in the same package
 abbrev pub private_above : List Placed
 private_above = release "g:a:1" (class_of "p/A" (private_m ∷ []) ∷ class_below "p/A" "p/B" (m ∷ []) ∷ [])

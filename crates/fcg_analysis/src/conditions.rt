@@ -6,7 +6,7 @@ ghost use Rattle.fcg_analysis.specs.Types.{known};
 ghost use Rattle.fcg_analysis.specs.Resolution.{KindMismatch, NoSuchMethod, resolved};
 ghost use Rattle.fcg_analysis.specs.Edges.{IsMethod, IsPhantom, IsFailed, edges, statuses};
 ghost use Rattle.fcg_analysis.specs.Cases.ShortForm.{number_in, overrides, method_ref, interface_ref};
-ghost use Rattle.fcg_analysis.specs.Cases.Conditions.{overloads, inner_packages, gap_of_interface_above, named_above, class_beside_receiver, phantom_of_known, own_before_object, interface_below_beside, interface_of_superclass, found_in_interfaces, default_of_interface_below, private_above, private_of_interface, class_before_default, phantom_by_name, object_below_phantom, special_object_at_the_end, special_superclass_default, absent_init, special_absent_interface, gap_above, static_below_absent, default_below_absent, class_beside_default, special_mismatch, special_absent_method, special_interface_ref, special_own, special_default, special_object_first, interface_init, static_call_of_instance, array_kinds};
+ghost use Rattle.fcg_analysis.specs.Cases.Conditions.{overloads, inner_packages, gap_of_interface_above, named_above, class_beside_receiver, phantom_of_known, own_before_object, interface_below_beside, interface_of_superclass, found_in_interfaces, default_of_interface_below, private_above, private_of_interface, class_before_default, phantom_by_name, object_below_phantom, abstract_below_phantom, special_object_at_the_end, special_superclass_default, absent_init, special_absent_interface, gap_above, static_below_absent, default_below_absent, class_beside_default, special_mismatch, special_absent_method, special_interface_ref, special_own, special_default, special_object_first, interface_init, static_call_of_instance, array_kinds};
 
 /// Methods of one name are told apart by their descriptors.
 pub fn overloads_case()
@@ -103,6 +103,12 @@ pub fn phantom_by_name_case()
 pub fn object_below_phantom_case()
     ensures edges { edges (known object_below_phantom) ≡ (1, 0) ∷ [] }
     ensures statuses { statuses (known object_below_phantom) ≡ IsPhantom ∷ [] }
+{}
+
+/// An abstract method that overrides a phantom is selected, before any default, and there is no edge to it.
+pub fn abstract_below_phantom_case()
+    ensures edges { edges (known abstract_below_phantom) ≡ [] }
+    ensures statuses { statuses (known abstract_below_phantom) ≡ IsPhantom ∷ [] }
 {}
 
 /// Where no class overrides a phantom the one default is selected.

@@ -1,9 +1,9 @@
 -- Sets that tell a rule from the same rule with one of its conditions left out.
-use Rattle.std.specs.Prelude.{List, [], ◌∷◌}
+use Rattle.std.specs.Prelude.{List, [], ◌∷◌, Some, codes}
 use Rattle.fcg_views.specs.declared.view.SiteKind.TheVariants.{Virtual, Interface, Special, Static}
 use Rattle.fcg_views.specs.declared.view.View.{View}
 use Rattle.fcg_analysis.specs.Declarations.{Placed}
-use Rattle.fcg_analysis.specs.Cases.ShortForm.{call, interface_call, method, open_method, abstract_method, static_method, class_of, class_below, class_with, abstract_class, interface_of, object_of, release, caller, k_calling, m, abstract_m, package_m, private_m, static_m}
+use Rattle.fcg_analysis.specs.Cases.ShortForm.{call, interface_call, method, open_method, abstract_method, static_method, type_with, class_of, class_below, class_with, abstract_class, interface_of, object_of, release, caller, k_calling, m, abstract_m, package_m, private_m, static_m}
 
 -- ---- Names and descriptors
 
@@ -180,6 +180,15 @@ class_beside_default = release "g:a:1" (
     ∷ class_of "p/A" (m ∷ [])
     ∷ class_with "p/A" ("q/I" ∷ []) "p/B" []
     ∷ caller (interface_call Interface "q/I" "m" "()V" ∷ [])
+    ∷ [])
+
+-- below an absent class an abstract class with an abstract method, beside a default, and a class below that
+abbrev pub abstract_below_phantom : List Placed
+abstract_below_phantom = release "g:a:1" (
+    interface_of "p/I" [] (m ∷ [])
+    ∷ type_with 0x0421 (Some (codes "x/Y")) "p/A" ("p/I" ∷ []) (abstract_m ∷ [])
+    ∷ class_below "p/A" "p/B" []
+    ∷ caller (call Virtual "x/Y" "m" "()V" ∷ [])
     ∷ [])
 
 -- ---- Special calls

@@ -6,6 +6,7 @@ ghost use Rattle.fcg_analysis.specs.Types.{known};
 ghost use Rattle.fcg_analysis.specs.Resolution.{KindMismatch, NoSuchMethod, resolved};
 ghost use Rattle.fcg_analysis.specs.Edges.{IsMethod, IsPhantom, IsFailed, edges, statuses};
 ghost use Rattle.fcg_analysis.specs.Cases.ShortForm.{number_in, overrides, method_ref, interface_ref};
+ghost use Rattle.fcg_analysis.specs.Cases.Sets.{private_and_static};
 ghost use Rattle.fcg_analysis.specs.Cases.Conditions.{overloads, inner_packages, gap_of_interface_above, named_above, class_beside_receiver, phantom_of_known, own_before_object, interface_below_beside, interface_of_superclass, found_in_interfaces, default_of_interface_below, private_above, private_of_interface, class_before_default, phantom_by_name, object_below_phantom, abstract_below_phantom, special_object_at_the_end, special_superclass_default, absent_init, special_absent_interface, gap_above, static_below_absent, default_below_absent, class_beside_default, special_mismatch, special_absent_method, special_interface_ref, special_own, special_default, special_object_first, interface_init, static_call_of_instance, array_kinds};
 
 /// Methods of one name are told apart by their descriptors.
@@ -73,9 +74,10 @@ pub fn default_of_interface_below_case()
     ensures edges { edges (known default_of_interface_below) ≡ (2, 1) ∷ [] }
 {}
 
-/// No method overrides a private one.
-pub fn private_above_case()
-    ensures { overrides (known private_above) 1 0 ≡ false }
+/// No method overrides a private or a static one.
+pub fn not_overridden_case()
+    ensures private_one { overrides (known private_above) 1 0 ≡ false }
+    ensures static_one { overrides (known private_and_static) 0 2 ≡ false }
 {}
 
 /// A private method of an interface is found in that interface, and selected itself.

@@ -20,3 +20,7 @@ pub mod SpecialLaws
 pub mod MeetLaws
 pub mod CountLaws
 pub mod RowLaws
+pub mod ChainWalks
+pub mod DeclaredSearch
+pub mod HandingLaws
+pub mod TableLaws

@@ -93,7 +93,7 @@ candidate_back c a m =
     m.open'
 
 -- of two that may override one, the first may override the second
-candidates_beside : (c b a : Node) → is_candidate c a ≡ true → is_candidate b a ≡ true → is_candidate c b ≡ true
+pub candidates_beside : (c b a : Node) → is_candidate c a ≡ true → is_candidate b a ≡ true → is_candidate c b ≡ true
 candidates_beside c b a h k =
     let m = candidate c a h in let n = candidate b a k in
     candidate_back c b (record { over = m.over; under = n.over; name = sym n.name ∙ m.name; desc = sym n.desc ∙ m.desc; open' = m.open' })

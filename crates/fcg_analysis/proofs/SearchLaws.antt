@@ -71,7 +71,7 @@ signature_joined s a c h k =
     ((bytes_decides s.desc c.method.desc).1 ((bytes_decides s.desc a.method.desc).0 (and_second (same s.name a.method.name) (same s.desc a.method.desc) h) ∙ (bytes_decides a.method.desc c.method.desc).0 (and_second (same a.method.name c.method.name) (same a.method.desc c.method.desc) k)))
 
 -- two methods of one signature have each other's
-signature_shared : (s : Signature) (a b : Node) → has_signature s a.method ≡ true → has_signature s b.method ≡ true → has_signature (signature_of a.method) b.method ≡ true
+pub signature_shared : (s : Signature) (a b : Node) → has_signature s a.method ≡ true → has_signature s b.method ≡ true → has_signature (signature_of a.method) b.method ≡ true
 signature_shared s a b h k =
     and_from (same a.method.name b.method.name) (same a.method.desc b.method.desc)
     ((bytes_decides a.method.name b.method.name).1 (sym ((bytes_decides s.name a.method.name).0 (and_first (same s.name a.method.name) (same s.desc a.method.desc) h)) ∙ (bytes_decides s.name b.method.name).0 (and_first (same s.name b.method.name) (same s.desc b.method.desc) k)))

@@ -4,3 +4,5 @@ pub mod ByName
 pub mod ChainParts
 pub mod Methods
 pub mod Searches
+pub mod HandedOn
+pub mod Tables

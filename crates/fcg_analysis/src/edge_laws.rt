@@ -1,13 +1,14 @@
 //! Laws of edges, of what becomes of sites, and of the rows of those that reach a target.
-ghost use Rattle.std.specs.Prelude.{◌≡◌, ◌↔◌, ◌⊎◌, ◌<◌, ◌≤◌, ◌+◌, ℕ, true, false, List, Contains, filter, map, length, sum_by, count_by, Some, is_some};
+ghost use Rattle.std.specs.Prelude.{◌≡◌, ◌↔◌, ◌⊎◌, ◌<◌, ◌≤◌, ◌+◌, ℕ, true, false, Bool, List, Contains, filter, map, length, sum_by, count_by, Some, is_some};
 ghost use Rattle.std.specs.List.{range_with_len};
 ghost use Rattle.fcg_views.specs.declared.view.Site.{Site};
 ghost use Rattle.fcg_analysis.specs.Declarations.{Placed, signature_in, has_signature, has_array_owner, is_static, is_instance, is_abstract};
 ghost use Rattle.fcg_analysis.specs.Nodes.{Node, nodes};
 ghost use Rattle.fcg_analysis.specs.Resolution.{Cause, resolved};
-ghost use Rattle.fcg_analysis.specs.Edges.{VirtualCall, InterfaceCall, StaticCall, call_of, is_dispatched, meets, IsNoCall, IsFailed, status, statuses_of, statuses, is_phantom_status, is_failed_status, phantoms, failed};
+ghost use Rattle.fcg_analysis.specs.Edges.{VirtualCall, InterfaceCall, StaticCall, call_of, is_dispatched, meets, edge, edges, IsNoCall, IsFailed, status, statuses_of, statuses, is_phantom_status, is_failed_status, phantoms, failed};
 ghost use Rattle.fcg_analysis.specs.Reach.{Edges, dist, next, Row, rows};
 ghost use Rattle.fcg_analysis.specs.Laws.Searches.{HasReceiver};
+ghost use Rattle.fcg_analysis.specs.Laws.Tables.{edges_in};
 
 /// A site that makes no call, or whose reference fails, has no edge; and its edges depend on how it calls, on what it names, and
 /// on the class that it stands in.
@@ -29,6 +30,11 @@ pub fn targets_by_their_flags()
 /// A virtual or interface call leads to a method that isn't abstract where some receiver selects it.
 pub fn dispatched_by_receivers()
     ensures { (types : List Placed) (a b : Node) (site : Site) → has_array_owner site.target ≡ false → (call_of site.kind ≡ VirtualCall) ⊎ (call_of site.kind ≡ InterfaceCall) → is_abstract b.method ≡ false → is_dispatched (resolved types site.target) ≡ true → (meets types a site b ≡ true) ↔ HasReceiver types site b }
+{}
+
+/// A table of pairs of numbers that agrees with the relation on each two nodes has the list of edges.
+pub fn tables_have_the_edges()
+    ensures { (types : List Placed) (leads : ℕ → ℕ → Bool) → ((a b : Node) → Contains (nodes types) a → Contains (nodes types) b → leads a.number b.number ≡ edge types a b) → edges_in (length (nodes types)) leads ≡ edges types }
 {}
 
 /// The counts are sums over the nodes, and a site counts to one of them at most.

@@ -1,17 +1,18 @@
 //! Laws of resolution, of overriding and selection, and of special calls.
-ghost use Rattle.std.specs.Prelude.{◌≡◌, ◌↔◌, true, false, List, [], ◌∷◌, Contains, drop, Bool, not, ◌&&◌, ◌||◌, Some, None, is_some};
+ghost use Rattle.std.specs.Prelude.{◌≡◌, ◌↔◌, true, false, List, [], ◌∷◌, Contains, drop, Bool, not, ◌&&◌, ◌||◌, Some, None, is_some, find};
 ghost use Rattle.std.specs.List.{IsDistinct, list_any};
 ghost use Rattle.fcg_views.specs.declared.view.Ref.{Ref};
 ghost use Rattle.fcg_analysis.specs.NamesAndFlags.{or_else, found_in};
-ghost use Rattle.fcg_analysis.specs.Declarations.{Placed, Signature, signature_in, has_signature, has_array_owner, is_named, is_type, is_class, is_interface, is_public, is_private, is_protected, is_package_private, is_instance};
+ghost use Rattle.fcg_analysis.specs.Declarations.{Placed, Signature, signature_in, has_signature, has_array_owner, is_named, is_type, is_class, is_interface, is_public, is_private, is_protected, is_package_private, is_instance, signature_of};
 ghost use Rattle.fcg_analysis.specs.Types.{type_named, object, superclass, chain, has_gap};
 ghost use Rattle.fcg_analysis.specs.Nodes.{Node, nodes, declared, one_default};
 ghost use Rattle.fcg_analysis.specs.Resolution.{Found, Phantom, Failed, KindMismatch, NoSuchMethod, resolved, public_of_object};
-ghost use Rattle.fcg_analysis.specs.Selection.{same_package, is_candidate, can_override, can_override_phantom, searched, selected};
+ghost use Rattle.fcg_analysis.specs.Selection.{same_package, overrides_directly, is_candidate, can_override, can_override_phantom, searched, selected};
 ghost use Rattle.fcg_analysis.specs.Special.{is_superclass_name, found_from, is_init, goes_on, special};
 ghost use Rattle.fcg_analysis.specs.Laws.Statements.{IsAcyclic, line_above, chain_above};
 ghost use Rattle.fcg_analysis.specs.Laws.Methods.{IsSingle};
 ghost use Rattle.fcg_analysis.specs.Laws.Searches.{IsMismatch, IsFirst};
+ghost use Rattle.fcg_analysis.specs.Laws.HandedOn.{where_passes, passes_at, is_open, handed_on, overrides_alike};
 
 /// A resolved method is a node of the reference's name and descriptor.
 pub fn resolved_methods_are_nodes()
@@ -95,4 +96,28 @@ pub fn special_calls_start()
 /// A special call by an interface takes its own instance method, else Object's public one, else its one default.
 pub fn special_calls_by_interfaces()
     ensures { (types : List Placed) (x t : Placed) (r : Ref) → has_array_owner r ≡ false → is_init r ≡ false → r.owner_is_interface_ref ≡ true → type_named types r.owner ≡ Some t → goes_on (resolved types r) ≡ true → special types x r ≡ or_else (searched types (λ m. has_signature (signature_in r) m.method && is_instance m.method) (t ∷ [])) (or_else (public_of_object types (signature_in r)) (one_default types t (signature_in r))) }
+{}
+
+// ---- By one look at each class
+
+/// Where no type has two methods of one name and descriptor, a search in one type for a method of a name and descriptor looks at
+/// the one that the type declares.
+pub fn searches_look_at_declared()
+    ensures only { (types : List Placed) → IsDistinct is_type types → IsSingle types → (t : Placed) (s : Signature) (m : Node) → Contains (nodes types) m → is_type t m.owner ≡ true → has_signature s m.method ≡ true → declared types s t ≡ Some m }
+    ensures first_one { (types : List Placed) → IsDistinct is_type types → IsSingle types → (t : Placed) (s : Signature) (test : Node → Bool) → ((m : Node) → test m ≡ true → has_signature s m.method ≡ true) → find (λ m. is_type t m.owner && test m) (nodes types) ≡ where_passes test (declared types s t) }
+    ensures any_one { (types : List Placed) → IsDistinct is_type types → IsSingle types → (t : Placed) (s : Signature) (test : Node → Bool) → ((m : Node) → test m ≡ true → has_signature s m.method ≡ true) → list_any (λ m. is_type t m.owner && test m) (nodes types) ≡ passes_at test (declared types s t) }
+{}
+
+/// Whether a method overrides another is seen by the two, and by what hands the other on between them.
+pub fn overriding_by_one_walk()
+    ensures of_candidates { (types : List Placed) → IsAcyclic types → IsDistinct is_type types → IsSingle types → (c a : Node) → is_candidate c a ≡ true → Contains types c.owner → can_override types c a ≡ (overrides_directly c a || is_package_private a.method && handed_on types a (drop 1 (chain types c.owner))) }
+    ensures of_others { (types : List Placed) (c a : Node) → is_candidate c a ≡ false → can_override types c a ≡ false }
+{}
+
+/// A public or protected method, or a phantom, is overridden for a class by the first method of the chain that isn't private. A
+/// package-private one by the first that besides is of its package, or any where the method is handed on in the chain.
+pub fn selection_by_declared()
+    ensures of_open { (types : List Placed) → IsAcyclic types → IsDistinct is_type types → IsSingle types → (a : Node) → is_instance a.method ≡ true → (is_public a.method || is_protected a.method) ≡ true → (d : Placed) → Contains types d → searched types (λ c. can_override types c a) (chain types d) ≡ found_in (λ t. where_passes is_open (declared types (signature_of a.method) t)) (chain types d) }
+    ensures of_phantom { (types : List Placed) → IsAcyclic types → IsDistinct is_type types → IsSingle types → (s : Signature) (d : Placed) → Contains types d → searched types (can_override_phantom s) (chain types d) ≡ found_in (λ t. where_passes is_open (declared types s t)) (chain types d) }
+    ensures of_package_private { (types : List Placed) → IsAcyclic types → IsDistinct is_type types → IsSingle types → (a : Node) → Contains (nodes types) a → is_package_private a.method ≡ true → is_instance a.method ≡ true → (d : Placed) → Contains types d → searched types (λ c. can_override types c a) (chain types d) ≡ found_in (λ t. where_passes (overrides_alike (handed_on types a (chain types d)) a) (declared types (signature_of a.method) t)) (chain types d) }
 {}

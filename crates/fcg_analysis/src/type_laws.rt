@@ -7,7 +7,7 @@ ghost use Rattle.fcg_analysis.specs.Declarations.{Placed, object_name, is_type, 
 ghost use Rattle.fcg_analysis.specs.Types.{winners, known, type_named, object, links, implements, above, is_above, superclass, uses_unlinked_name, has_gap, chain, is_below};
 ghost use Rattle.fcg_analysis.specs.Laws.Statements.{IsAcyclic};
 ghost use Rattle.fcg_analysis.specs.Laws.ByName.{class_named, interface_passes, links_to, is_below_itself};
-ghost use Rattle.fcg_analysis.specs.Laws.ChainParts.{IsShared, EndsWith};
+ghost use Rattle.fcg_analysis.specs.Laws.ChainParts.{IsShared, EndsWith, next_in_chain, chain_of};
 
 /// A view more at the end wins where no earlier view has its name. So the winners stand in the order of the views.
 pub fn winners_go_on()
@@ -71,4 +71,15 @@ pub fn chains_are_of_types()
 pub fn chains_are_shared()
     ensures shared { (types : List Placed) → IsAcyclic types → (t u : Placed) → Contains types t → Contains (chain types t) u → IsShared types t u }
     ensures ends { (types : List Placed) → IsAcyclic types → IsDistinct is_type types → (t o : Placed) → Contains types t → is_class t ≡ true → object types ≡ Some o → EndsWith types t o }
+{}
+
+/// A chain is its type and the chain of the next type in it, which is known.
+pub fn chains_are_walked()
+    ensures walked { (types : List Placed) → IsAcyclic types → (t : Placed) → Contains types t → chain types t ≡ t ∷ chain_of types (next_in_chain types t) }
+    ensures next_is_known { (types : List Placed) → IsAcyclic types → (t u : Placed) → Contains types t → next_in_chain types t ≡ Some u → Contains types u }
+{}
+
+/// Object is the known type of its name, where that is a class.
+pub fn object_is_named()
+    ensures { (types : List Placed) → IsDistinct is_type types → object types ≡ class_named types (object_name ∷ []) }
 {}

@@ -5,6 +5,7 @@ use Rattle.std.specs.List.{list_any, IsDistinct}
 use Rattle.std.specs.Cmp.Lexicographic.{bytes_decides}
 use Rattle.std.proofs.lemmas.Bool.{and_from, false_from_ne_true}
 use Rattle.std.proofs.lemmas.List.{append_assoc}
+use Rattle.std.proofs.Math.Bool.{or-false, or_assoc}
 use Rattle.fcg_analysis.specs.NamesAndFlags.{before, found_in, or_else, package_of}
 use Rattle.fcg_analysis.specs.Declarations.{Placed, Signature, signature_of, has_signature, is_type, is_instance, is_private, is_public, is_protected, is_package_private}
 use Rattle.fcg_analysis.specs.Types.{chain}
@@ -19,7 +20,7 @@ use Rattle.fcg_analysis.proofs.ChainLaws.{chain_rest}
 use Rattle.fcg_analysis.proofs.DeclaredSearch.{only_one, search_declared, any_declared}
 use Rattle.fcg_analysis.proofs.NodeMembers.{signature_self}
 use Rattle.fcg_analysis.proofs.OverrideLaws.{one_of_name, node_owner, candidates_beside, override_shortly}
-use Rattle.fcg_analysis.proofs.SearchLaws.{candidate_of}
+use Rattle.fcg_analysis.proofs.SearchLaws.{candidate, candidate_of}
 use Rattle.fcg_analysis.proofs.WinnerLaws.{is_type_back}
 
 -- ---- tests
@@ -41,14 +42,6 @@ before_in {X} p (y ∷ ys) x h = at (p y) (before_in p ys x) h
     at false r (inl e) = inl e
     at false r (inr k) = inr (r k)
 
-or_joined : (a b c : Bool) → ((a || b) || c) ≡ (a || (b || c))
-or_joined true b c = refl
-or_joined false b c = refl
-
-or_false : (b : Bool) → (b || false) ≡ b
-or_false true = refl
-or_false false = refl
-
 -- a type before the one that stops has it
 before_is_any : (stops has : Placed → Bool) (met : Bool) (line : List Placed) → has_before stops has met line ≡ (list_any stops line && (met || list_any has (before stops line)))
 before_is_any stops has met [] = refl
@@ -56,18 +49,13 @@ before_is_any stops has met (t ∷ ts) = at (stops t) (before_is_any stops has (
   where
     at : (b : Bool) → has_before stops has (met || has t) ts ≡ (list_any stops ts && ((met || has t) || list_any has (before stops ts)))
         → cond b met (has_before stops has (met || has t) ts) ≡ ((b || list_any stops ts) && (met || list_any has (cond b [] (t ∷ before stops ts))))
-    at true r = sym (or_false met)
-    at false r = r ∙ ap (λ v. list_any stops ts && v) (or_joined met (has t) (list_any has (before stops ts)))
+    at true r = sym (or-false met)
+    at false r = r ∙ ap (λ v. list_any stops ts && v) (or_assoc met (has t) (list_any has (before stops ts)))
 
 -- ---- signatures
 
 same_package_self : (a : Node) → same_package a a ≡ true
 same_package_self a = (bytes_decides (package_of a.owner.view.name) (package_of a.owner.view.name)).1 refl
-
-candidate_signature : (c a : Node) → is_candidate c a ≡ true → has_signature (signature_of a.method) c.method ≡ true
-candidate_signature c a h =
-    and_second (is_instance c.method && is_instance a.method) (has_signature (signature_of a.method) c.method)
-    (and_first (is_instance c.method && is_instance a.method && has_signature (signature_of a.method) c.method) (not (is_private c.method)) h)
 
 -- among methods of a's signature, the candidates are the open ones
 candidate_is_open : (c a : Node) → is_instance a.method ≡ true → has_signature (signature_of a.method) c.method ≡ true → is_candidate c a ≡ is_open c
@@ -123,10 +111,7 @@ module _ (types : List Placed) (acyclic : IsAcyclic types) (distinct : IsDistinc
 
   module _ (c a : Node) (allowed : is_candidate c a ≡ true) where
     a_instance : is_instance a.method ≡ true
-    a_instance =
-        and_second (is_instance c.method) (is_instance a.method)
-        (and_first (is_instance c.method && is_instance a.method) (has_signature (signature_of a.method) c.method)
-        (and_first (is_instance c.method && is_instance a.method && has_signature (signature_of a.method) c.method) (not (is_private c.method)) allowed))
+    a_instance = (candidate c a allowed).under
 
     handing : (b : Node) → has_signature (signature_of a.method) b.method ≡ true
         → (is_candidate c b && (is_candidate b a && ((is_public b.method || is_protected b.method) && same_package b a))) ≡ is_handing a b
@@ -149,7 +134,7 @@ module _ (types : List Placed) (acyclic : IsAcyclic types) (distinct : IsDistinc
     hands_is t k =
         any_declared types distinct one_each t (signature_of a.method)
         (λ b. is_candidate c b && (is_candidate b a && ((is_public b.method || is_protected b.method) && same_package b a)))
-        (λ b h. candidate_signature b a (and_first (is_candidate b a) _ (and_second (is_candidate c b) _ h)))
+        (λ b h. (candidate b a (and_first (is_candidate b a) _ (and_second (is_candidate c b) _ h))).signature)
         ∙ at (declared types (signature_of a.method) t) refl
       where
         at : (o : Option Node) → declared types (signature_of a.method) t ≡ o
@@ -184,7 +169,7 @@ module _ (types : List Placed) (acyclic : IsAcyclic types) (distinct : IsDistinc
   -- ---- selection
 
   over_signature : (c a : Node) → can_override types c a ≡ true → has_signature (signature_of a.method) c.method ≡ true
-  over_signature c a h = candidate_signature c a (candidate_of types c a h)
+  over_signature c a h = (candidate c a (candidate_of types c a h)).signature
 
   -- a search along a line for a test looks at the declared methods alone
   module _ (s : Signature) (test wanted : Node → Bool) (more : (m : Node) → test m ≡ true → has_signature s m.method ≡ true)

@@ -2,7 +2,7 @@
 use Rattle.std.proofs.Common.{◌≡◌, List, refl, sym, ap, subst, ◌∙◌, inl, inr}
 use Rattle.std.specs.Prelude.{◌↔◌, Bool, true, false, not, cond, ◌&&◌, ◌⊎◌, Option, Some, None, Contains, option_and_then}
 use Rattle.std.specs.List.{list_any}
-use Rattle.std.proofs.lemmas.Bool.{and_from}
+use Rattle.std.proofs.lemmas.Bool.{and_from, not-true}
 use Rattle.fcg_views.specs.declared.view.Ref.{Ref}
 use Rattle.fcg_views.specs.declared.view.Site.{Site}
 use Rattle.fcg_analysis.specs.Declarations.{Placed, signature_in, has_signature, has_array_owner, is_static, is_instance, is_abstract}
@@ -15,7 +15,7 @@ use Rattle.fcg_analysis.specs.Laws.Searches.{HasReceiver}
 use Rattle.fcg_analysis.proofs.General.Members.{IsIn-from_Contains, Contains-from_IsIn, any_in, in_any, and_first, and_second}
 use Rattle.fcg_analysis.proofs.NodeMembers.{one_node}
 use Rattle.fcg_analysis.proofs.ResolvedLaws.{resolved_of}
-use Rattle.fcg_analysis.proofs.SearchLaws.{IsInstanceOf, not_true, selected_is_instance, phantom_is_instance}
+use Rattle.fcg_analysis.proofs.SearchLaws.{IsInstanceOf, selected_is_instance, phantom_is_instance}
 use Rattle.fcg_analysis.proofs.SpecialLaws.{special_is_instance}
 
 -- by the kind of the owner and of the call
@@ -215,7 +215,7 @@ array_target types site b c n h = at c h
     of_flag f k =
         let p = and_first (is_outcome b (resolved types site.target) && not (is_abstract b.method)) f k in (
           and_second (is_outcome b (resolved types site.target) && not (is_abstract b.method)) f k,
-          not_true (is_abstract b.method) (and_second (is_outcome b (resolved types site.target)) (not (is_abstract b.method)) p),
+          not-true (is_abstract b.method) (and_second (is_outcome b (resolved types site.target)) (not (is_abstract b.method)) p),
           outcome_signature types site.target b n (and_first (is_outcome b (resolved types site.target)) (not (is_abstract b.method)) p),
         )
 
@@ -229,13 +229,13 @@ array_target types site b c n h = at c h
 row_target : (types : List Placed) (a : Node) (site : Site) (b : Node) (c : Call) → Contains (nodes types) b → meets_row types a site b c ≡ true → IsTarget types site b c
 row_target types a site b VirtualCall n h =
     let i = dispatch_instance types site b n h in
-    record { flags = λ other. (i.1, not_true (is_abstract b.method) (met_by types site b h).not_abstract); name = i.2 }
+    record { flags = λ other. (i.1, not-true (is_abstract b.method) (met_by types site b h).not_abstract); name = i.2 }
 row_target types a site b InterfaceCall n h =
     let i = dispatch_instance types site b n h in
-    record { flags = λ other. (i.1, not_true (is_abstract b.method) (met_by types site b h).not_abstract); name = i.2 }
+    record { flags = λ other. (i.1, not-true (is_abstract b.method) (met_by types site b h).not_abstract); name = i.2 }
 row_target types a site b SpecialCall n h =
     let i = special_instance types a.owner site b n h in
-    record { flags = λ other. (i.1, not_true (is_abstract b.method) (and_second (is_found b (special types a.owner site.target)) (not (is_abstract b.method)) h)); name = i.2 }
+    record { flags = λ other. (i.1, not-true (is_abstract b.method) (and_second (is_found b (special types a.owner site.target)) (not (is_abstract b.method)) h)); name = i.2 }
 row_target types a site b StaticCall n h =
     record { flags = λ other. absurd (other refl); name = outcome_signature types site.target b n (and_first (is_outcome b (resolved types site.target)) (is_static b.method) h) }
 row_target types a site b NoCall n h = absurd (cc)

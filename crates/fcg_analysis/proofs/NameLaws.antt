@@ -7,6 +7,7 @@ use Rattle.std.specs.Cmp.Lexicographic.{bytes_decides}
 use Rattle.std.proofs.lemmas.Bool.{or_left, or_from, and_from, false_from_ne_true}
 use Rattle.std.proofs.lemmas.List.{append-nil, append_assoc}
 use Rattle.std.proofs.lemmas.List.Folds.{list_any-append}
+use Rattle.std.proofs.Math.Bool.{or-false, or_assoc, and-true}
 use Rattle.fcg_analysis.specs.NamesAndFlags.{same, contains}
 use Rattle.fcg_analysis.specs.Walks.{Walk}
 use Rattle.fcg_analysis.specs.Declarations.{Placed, object_name, is_named, is_type, is_class, is_interface, is_object, superclass_names, interface_names, names_of}
@@ -100,24 +101,16 @@ class_of_one types d n =
     find_more (is_named n) (λ u. is_class u && contains u.view.name (n ∷ [])) asks types (same_name types d n)
     ∙ at (type_named types n) refl
   where
-    or_false : (b : Bool) → (b || false) ≡ b
-    or_false true = refl
-    or_false false = refl
-
     asks : (u : Placed) → (is_class u && contains u.view.name (n ∷ [])) ≡ true → is_named n u ≡ true
     asks u h =
-        let e : same u.view.name n ≡ true = sym (or_false (same u.view.name n)) ∙ and_second (is_class u) (contains u.view.name (n ∷ [])) h in
+        let e : same u.view.name n ≡ true = sym (or-false (same u.view.name n)) ∙ and_second (is_class u) (contains u.view.name (n ∷ [])) h in
         (bytes_decides n u.view.name).1 (sym ((bytes_decides u.view.name n).0 e))
 
     at : (o : Option Placed) → type_named types n ≡ o → kept (λ u. is_class u && contains u.view.name (n ∷ [])) o ≡ option_and_then (λ u. cond (is_class u) (Some u) None) o
     at None e = refl
     at (Some u) e =
         let k : same u.view.name n ≡ true = (bytes_decides u.view.name n).1 (sym ((bytes_decides n u.view.name).0 (find_in (is_named n) types u e).1)) in
-        ap (λ b. cond (is_class u && (b || false)) (Some u) None) k ∙ ap (λ b. cond b (Some u) None) (and_true (is_class u))
-      where
-        and_true : (b : Bool) → (b && true) ≡ b
-        and_true true = refl
-        and_true false = refl
+        ap (λ b. cond (is_class u && (b || false)) (Some u) None) k ∙ ap (λ b. cond b (Some u) None) (and-true (is_class u))
 
 pub superclass_by_name : (types : List Placed) → IsDistinct is_type types → (t : Placed) → superclass types t ≡ class_named types (superclass_names t)
 superclass_by_name types d t = at (is_object t || is_interface t) t.view.superclass
@@ -209,14 +202,10 @@ unlinked_by_name types d t = ap (λ f. list_any f (names_of t)) (λ i n. not (li
 abbrev mentions : List Placed → List ℕ → Placed → Bool
 mentions types n t = is_named n t || (is_none (type_named types n) && contains n (names_of t))
 
-or_joined : (a b c : Bool) → ((a || b) || c) ≡ (a || (b || c))
-or_joined true b c = refl
-or_joined false b c = refl
-
 below_put : (types : List Placed) (d : Placed) (n : List ℕ) → is_below types d n ≡ (same n object_name || list_any (mentions types n) (d ∷ above types d))
 unfolding is_below
 below_put types d n =
-    or_joined (same n object_name) (list_any (is_named n) (d ∷ above types d)) (is_none (type_named types n) && list_any (λ u. contains n (names_of u)) (d ∷ above types d))
+    or_assoc (same n object_name) (list_any (is_named n) (d ∷ above types d)) (is_none (type_named types n) && list_any (λ u. contains n (names_of u)) (d ∷ above types d))
     ∙ ap (λ b. same n object_name || b) (sym (any_or (is_named n) (λ u. contains n (names_of u)) (is_none (type_named types n)) (d ∷ above types d)))
 
 pub below_goes_on : (types : List Placed) (d : Placed) (n : List ℕ) → is_below types d n ≡ (is_below_itself types d n || list_any (λ u. links d u && is_below types u n) types)
@@ -243,11 +232,7 @@ below_known types d u c e = at (same u.view.name object_name) (is_none (type_nam
         → (s || list_any (is_type u) (d ∷ above types d) || a && list_any (λ v. contains u.view.name (names_of v)) (d ∷ above types d)) ≡ (is_type u d || list_any (is_type u) (above types d))
     at true a p q = absurd (cc)
     at false true p q = absurd (cc)
-    at false false p q = or_false (is_type u d || list_any (is_type u) (above types d))
-      where
-        or_false : (b : Bool) → (b || false) ≡ b
-        or_false true = refl
-        or_false false = refl
+    at false false p q = or-false (is_type u d || list_any (is_type u) (above types d))
 
 pub below_object : (types : List Placed) (d : Placed) → is_below types d object_name ≡ true
 below_object types d = below_put types d object_name ∙ or_left (same object_name object_name) (list_any (mentions types object_name) (d ∷ above types d)) ((bytes_decides object_name object_name).1 refl)

@@ -18,7 +18,7 @@ use Rattle.fcg_analysis.specs.Laws.Methods.{methods_of, IsMethodNode, IsSingle}
 use Rattle.fcg_analysis.proofs.General.Members.{IsIn, IsIn-from_Contains, Contains-from_IsIn, and_first, and_second, any_in, in_any, filter_in, find_none, find_in, in_map, map_in, in_flat_map, flat_map_in}
 use Rattle.fcg_analysis.proofs.General.Sorted.{in_all}
 use Rattle.fcg_analysis.proofs.NodeLaws.{Rising, nodes_rise}
-use Rattle.fcg_analysis.proofs.OverrideLaws.{one_of_name, node_owner}
+use Rattle.fcg_analysis.proofs.OverrideLaws.{one_of_name, node_member, node_owner}
 use Rattle.fcg_analysis.proofs.WinnerLaws.{is_type_self, is_type_back}
 
 -- ---- nodes are methods of types
@@ -29,15 +29,10 @@ of_type types p h =
     let m = in_map (λ m. (t.0, m)) t.0.view.methods p t.2 in
     subst (λ q. IsIn q.0 types × IsIn q.1 q.0.view.methods) m.2 (t.1, m.1)
 
-pair_of : (n : ℕ) (ps : List (Placed × Method)) (b : Node) → IsIn b (nodes_from n ps) → IsIn (b.owner, b.method) ps
-pair_of n [] b h = absurd h
-pair_of n (p ∷ ps) b (inl e) = inl (λ i. ((e i).owner, (e i).method))
-pair_of n (p ∷ ps) b (inr h) = inr (pair_of (n + 1) ps b h)
-
 pub node_method : (types : List Placed) (m : Node) → Contains (nodes types) m → Contains types m.owner × Contains m.owner.view.methods m.method
 unfolding nodes
 node_method types m c =
-    let r = of_type types (m.owner, m.method) (pair_of 0 (methods_of types) m (IsIn-from_Contains _ m c)) in
+    let r = of_type types (m.owner, m.method) (node_member 0 (methods_of types) m (IsIn-from_Contains _ m c)) in
     (Contains-from_IsIn _ m.owner r.0, Contains-from_IsIn _ m.method r.1)
 
 node_of : (n : ℕ) (ps : List (Placed × Method)) (p : Placed × Method) → IsIn p ps → (b : Node) × IsIn b (nodes_from n ps) × (b.owner ≡ p.0) × (b.method ≡ p.1)

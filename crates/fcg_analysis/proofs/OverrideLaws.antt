@@ -52,7 +52,7 @@ member_owner (t ∷ ts) p h =
       | inr k ↦ inr (member_owner ts p k)
     ]
 
-node_member : (n : ℕ) (ms : List (Placed × Method)) (b : Node) → IsIn b (nodes_from n ms) → IsIn (b.owner, b.method) ms
+pub node_member : (n : ℕ) (ms : List (Placed × Method)) (b : Node) → IsIn b (nodes_from n ms) → IsIn (b.owner, b.method) ms
 node_member n [] b h = absurd h
 node_member n (m ∷ ms) b (inl e) = inl (λ i. ((e i).owner, (e i).method))
 node_member n (m ∷ ms) b (inr h) = inr (node_member (n + 1) ms b h)

@@ -4,7 +4,7 @@ use Rattle.std.specs.Prelude.{Bool, true, false, not, cond, ◌&&◌, ◌||◌, 
 use Rattle.std.specs.List.{list_any, IsDistinct}
 use Rattle.std.specs.Cmp.{both_ways}
 use Rattle.std.specs.Cmp.Lexicographic.{bytes_decides}
-use Rattle.std.proofs.lemmas.Bool.{or_left, and_from, false_from_ne_true}
+use Rattle.std.proofs.lemmas.Bool.{or_left, and_from, false_from_ne_true, not-true}
 use Rattle.fcg_analysis.specs.NamesAndFlags.{same, package_of, before, or_else, found_in}
 use Rattle.fcg_analysis.specs.Declarations.{Placed, Signature, signature_of, has_signature, is_type, is_public, is_protected, is_private, is_package_private, is_instance}
 use Rattle.fcg_analysis.specs.Types.{superclass, chain}
@@ -26,10 +26,6 @@ use Rattle.fcg_analysis.proofs.SuperMethods.{default_in, super_is_open}
 use Rattle.fcg_analysis.proofs.WinnerLaws.{name_of_type}
 
 -- ---- candidates
-
-pub not_true : (b : Bool) → not b ≡ true → b ≡ false
-not_true true h = absurd (cc)
-not_true false h = refl
 
 pub candidate_of : (types : List Placed) (c a : Node) → can_override types c a ≡ true → is_candidate c a ≡ true
 unfolding can_override
@@ -53,7 +49,7 @@ candidate c a h =
       over = and_first (is_instance c.method) (is_instance a.method) q;
       under = and_second (is_instance c.method) (is_instance a.method) q;
       signature = and_second (is_instance c.method && is_instance a.method) (has_signature (signature_of a.method) c.method) p;
-      not_private = not_true (is_private c.method) (and_second (is_instance c.method && is_instance a.method && has_signature (signature_of a.method) c.method) (not (is_private c.method)) h);
+      not_private = not-true (is_private c.method) (and_second (is_instance c.method && is_instance a.method && has_signature (signature_of a.method) c.method) (not (is_private c.method)) h);
     }
 
 pub candidate_back : (c a : Node) → Candidate c a → is_candidate c a ≡ true
@@ -104,7 +100,7 @@ of_itself types m = both_ways (can_override types m m) (is_instance m.method && 
     back : (is_instance m.method && not (is_private m.method)) ≡ true → can_override types m m ≡ true
     back h =
         let i = and_first (is_instance m.method) (not (is_private m.method)) h in
-        let v = not_true (is_private m.method) (and_second (is_instance m.method) (not (is_private m.method)) h) in
+        let v = not-true (is_private m.method) (and_second (is_instance m.method) (not (is_private m.method)) h) in
         over_directly (length (between types m.owner m.owner)) types m m (candidate_back m m (record { over = i; under = i; signature = signature_self m.method; not_private = v }))
         (direct (is_public m.method) (is_private m.method) (is_protected m.method) (same_package m m) v ((bytes_decides (package_of m.owner.view.name) (package_of m.owner.view.name)).1 refl))
 

@@ -2,7 +2,8 @@
 use Rattle.std.proofs.Common.{◌≡◌, List, [], ◌∷◌, drop, refl, sym, ap, subst, ◌∙◌, inl, inr}
 use Rattle.std.specs.Prelude.{Bool, true, false, not, cond, ◌&&◌, ◌||◌, ◌⊎◌, find, Option, Some, None, Contains, option_and_then, is_none}
 use Rattle.std.specs.List.{list_any}
-use Rattle.std.proofs.lemmas.Bool.{and_from}
+use Rattle.std.proofs.lemmas.Bool.{and_from, not-true}
+use Rattle.std.proofs.Math.Bool.{or-false}
 use Rattle.fcg_views.specs.declared.view.Ref.{Ref}
 use Rattle.fcg_analysis.specs.NamesAndFlags.{or_else, found_in, contains}
 use Rattle.fcg_analysis.specs.Declarations.{Placed, Signature, signature_in, has_signature, has_array_owner, is_named, is_type, is_class, is_interface, is_instance, superclass_names}
@@ -104,15 +105,11 @@ name_of_line types a x u c d = ap (λ own. list_any (is_type u) (drop 1 own) || 
     there None k = absurd (find_none (is_type u) types u k (IsIn-from_Contains types u d) (is_type_self u))
     there (Some v) k = refl
 
-    or_false : (b : Bool) → (b || false) ≡ b
-    or_false true = refl
-    or_false false = refl
-
     at : (b : Bool) → b ≡ false
         → (list_any (is_type u) (line_above types (superclass types x)) || b && list_any (λ t. contains u.view.name (superclass_names t)) (x ∷ line_above types (superclass types x)))
         ≡ list_any (is_type u) (line_above types (superclass types x))
     at true k = absurd (cc)
-    at false k = or_false (list_any (is_type u) (line_above types (superclass types x)))
+    at false k = or-false (list_any (is_type u) (line_above types (superclass types x)))
 
 -- ---- where the search starts
 
@@ -231,13 +228,9 @@ at_name types x t r m a i n k c f j l =
     s : Signature
     s = signature_in r
 
-    class : (b : Bool) → not b ≡ true → b ≡ false
-    class true e = absurd (cc)
-    class false e = refl
-
     by_class : (b : Bool) → r.owner_is_interface_ref ≡ b → found_or (nothing_found types t) (or_else (found_in (declared types (signature_in r)) (chain types t)) (found_above types (signature_in r) t)) ≡ Found m
-    by_class false e = sym (of_owner types r (Some t) a k ∙ kinds types r t false false e (class (is_interface t) c)) ∙ f
-    by_class true e = absurd (let q : Failed KindMismatch ≡ Found m = sym (of_owner types r (Some t) a k ∙ kinds types r t true false e (class (is_interface t) c)) ∙ f in cc)
+    by_class false e = sym (of_owner types r (Some t) a k ∙ kinds types r t false false e (not-true (is_interface t) c)) ∙ f
+    by_class true e = absurd (let q : Failed KindMismatch ≡ Found m = sym (of_owner types r (Some t) a k ∙ kinds types r t true false e (not-true (is_interface t) c)) ∙ f in cc)
 
     at : (o : Option Node) → found_in (declared types (signature_in r)) (chain types t) ≡ o
         → found_or (nothing_found types t) (or_else o (found_above types (signature_in r) t)) ≡ Found m → found_in (declared types (signature_in r)) (chain types t) ≡ Some m

@@ -2,7 +2,7 @@
 use Rattle.std.proofs.Common.{◌≡◌, ℕ, zero, suc, ◌+◌, ◌<◌, ◌≤◌, List, [], ◌∷◌, length, refl, sym, ap, subst, ◌∙◌, inl, inr, arith}
 use Rattle.std.specs.Prelude.{◌↔◌, Bool, true, false, not, cond, ◌&&◌, ◌||◌, filter, Some, None, Contains}
 use Rattle.std.specs.List.{list_any, IsDistinct}
-use Rattle.std.proofs.lemmas.Bool.{and_from, or_parts, or_from, false_from_ne_true}
+use Rattle.std.proofs.lemmas.Bool.{and_from, or_parts, or_from, false_from_ne_true, not-true}
 use Rattle.fcg_analysis.specs.NamesAndFlags.{one, first_of_list}
 use Rattle.fcg_analysis.specs.Declarations.{Placed, Signature, is_type, is_interface, is_private, is_static, is_abstract, has_signature}
 use Rattle.fcg_analysis.specs.Types.{links, above, is_above}
@@ -30,10 +30,6 @@ supers : (types : List Placed) (t : Placed) (s : Signature) → super_methods ty
 unfolding super_methods
 supers types t s = refl
 
-false_of_not : (b : Bool) → not b ≡ true → b ≡ false
-false_of_not true h = absurd (cc)
-false_of_not false h = refl
-
 pub super_in : (types : List Placed) (t : Placed) (s : Signature) (m : Node) → IsIn m (super_methods types t s) → IsIn m (nodes types) × (is_super types t s m ≡ true)
 super_in types t s m h = in_filter (is_super types t s) (nodes types) m (subst (IsIn m) (supers types t s) h)
 
@@ -46,7 +42,7 @@ super_signature types t s m h =
 pub super_is_open : (types : List Placed) (t : Placed) (s : Signature) (m : Node) → IsIn m (super_methods types t s) → (is_private m.method ≡ false) × (is_static m.method ≡ false)
 super_is_open types t s m h =
     let r = super_in types t s m h in
-    or_parts (is_private m.method) (is_static m.method) (false_of_not (is_private m.method || is_static m.method)
+    or_parts (is_private m.method) (is_static m.method) (not-true (is_private m.method || is_static m.method)
     (and_second (has_signature s m.method) (not (is_private m.method || is_static m.method))
     (and_first (is_open_one s m) (is_interface m.owner) (and_first (is_open_one s m && is_interface m.owner) (is_above types t m.owner) r.1))))
 
@@ -109,7 +105,7 @@ pub specific_in : (types : List Placed) (t : Placed) (s : Signature) (m : Node) 
     → IsIn m (super_methods types t s) × (list_any (λ o. is_above types o.owner m.owner) (super_methods types t s) ≡ false)
 specific_in types t s m h =
     let r = in_filter (λ m. not (list_any (λ o. is_above types o.owner m.owner) (super_methods types t s))) (super_methods types t s) m (subst (IsIn m) (specifics types t s) h) in
-    (r.0, false_of_not _ r.1)
+    (r.0, not-true _ r.1)
 
 in_specific : (types : List Placed) (t : Placed) (s : Signature) (m : Node) → IsIn m (super_methods types t s)
     → list_any (λ o. is_above types o.owner m.owner) (super_methods types t s) ≡ false → IsIn m (specific types t s)
@@ -194,7 +190,7 @@ default_is_only types t s m = one_is (filter (λ n. not (is_abstract n.method)) 
 pub default_in : (types : List Placed) (t : Placed) (s : Signature) (m : Node) → one_default types t s ≡ Some m → IsIn m (super_methods types t s) × (is_abstract m.method ≡ false)
 default_in types t s m e =
     let r = in_filter (λ n. not (is_abstract n.method)) (specific types t s) m (subst (IsIn m) (sym ((default_is_only types t s m).0 e)) (inl refl)) in
-    ((specific_in types t s m r.0).0, false_of_not (is_abstract m.method) r.1)
+    ((specific_in types t s m r.0).0, not-true (is_abstract m.method) r.1)
 
 least_first : (p : Node → Bool) (ns : List Node) → Rising ns → (m n : Node) → first_of_list (filter p ns) ≡ Some m → IsIn n (filter p ns) → m.number ≤ n.number
 unfolding Rising

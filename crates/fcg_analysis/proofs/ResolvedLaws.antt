@@ -2,7 +2,7 @@
 use Rattle.std.proofs.Common.{◌≡◌, List, ◌∷◌, refl, sym, ap, subst, ◌∙◌, inl, inr}
 use Rattle.std.specs.Prelude.{◌↔◌, Bool, true, false, not, cond, ◌&&◌, ◌⊎◌, Option, Some, None, Contains, option_and_then, is_some, is_none}
 use Rattle.std.specs.List.{list_any}
-use Rattle.std.proofs.lemmas.Bool.{or_parts}
+use Rattle.std.proofs.lemmas.Bool.{or_parts, not-true}
 use Rattle.fcg_views.specs.declared.view.Ref.{Ref}
 use Rattle.fcg_analysis.specs.NamesAndFlags.{or_else, found_in}
 use Rattle.fcg_analysis.specs.Declarations.{Placed, Signature, signature_in, has_signature, has_array_owner, is_named, is_class, is_interface, is_public, is_instance}
@@ -10,7 +10,7 @@ use Rattle.fcg_analysis.specs.Types.{type_named, object, superclass, chain, has_
 use Rattle.fcg_analysis.specs.Nodes.{Node, nodes, declared, one_default, first_super_method}
 use Rattle.fcg_analysis.specs.Resolution.{Outcome, Found, Phantom, Failed, KindMismatch, NoSuchMethod, found_or, nothing_found, public_of_object, method_of_array, method_of_owner, resolved}
 use Rattle.fcg_analysis.specs.Laws.Statements.{IsAcyclic, chain_above}
-use Rattle.fcg_analysis.specs.Laws.Searches.{IsMismatch}
+use Rattle.fcg_analysis.specs.Laws.Searches.{IsMismatch, HasOwner}
 use Rattle.fcg_analysis.proofs.General.Members.{IsIn, Contains-from_IsIn, find_in, found_first, and_second}
 use Rattle.fcg_analysis.proofs.ChainLaws.{chain_goes_on}
 use Rattle.fcg_analysis.proofs.NodeMembers.{declared_is}
@@ -53,7 +53,7 @@ first_is_of types t s m e = let h = first_in types t s m e in ((super_in types t
 -- ---- by the owner
 
 -- of an array, where Object is found or not
-abbrev of_object : List Placed → Ref → Option Placed → Outcome
+abbrev pub of_object : List Placed → Ref → Option Placed → Outcome
 of_object types r None = Phantom
 of_object types r (Some o) = found_or (Failed NoSuchMethod) (declared types (signature_in r) o)
 
@@ -262,3 +262,41 @@ own_is_found types a r t m e n k d = of_owner types r (Some t) e n ∙ at r.owne
         kinds types r t false false p (k ∙ p)
         ∙ ap (λ zs. found_or (nothing_found types t) (or_else (found_in (declared types (signature_in r)) zs) (found_above types (signature_in r) t))) (chain_goes_on types a t there)
         ∙ ap (λ o. found_or (nothing_found types t) (or_else (or_else o (found_in (declared types (signature_in r)) (chain_above types t (superclass types t)))) (found_above types (signature_in r) t))) d
+
+-- ---- in order
+
+module _ (types : List Placed) (r : Ref) (t : Placed) (owner : HasOwner types r t) where
+  class_is : is_class t ≡ true → resolved types r ≡ found_or (nothing_found types t) (of_class types (signature_in r) t)
+  class_is c =
+      let f = not-true (is_interface t) c in
+      of_owner types r (Some t) owner.no_array owner.known' ∙ kinds types r t false false (sym owner.kind ∙ f) f
+
+  interface_is : is_interface t ≡ true → resolved types r ≡ found_or (nothing_found types t) (of_interface types (signature_in r) t)
+  interface_is f = of_owner types r (Some t) owner.no_array owner.known' ∙ kinds types r t true true (sym owner.kind ∙ f) f
+
+  -- by what the chain declares, by the default and by the first superinterface method
+  pub of_class_by : is_class t ≡ true → (a b c : Option Node) → found_in (declared types (signature_in r)) (chain types t) ≡ a → one_default types t (signature_in r) ≡ b → first_super_method types t (signature_in r) ≡ c
+      → resolved types r ≡ found_or (nothing_found types t) (or_else a (or_else b c))
+  of_class_by k a b c e f g =
+      class_is k
+      ∙ ap (λ o. found_or (nothing_found types t) (or_else o (found_above types (signature_in r) t))) e
+      ∙ ap (λ o. found_or (nothing_found types t) (or_else a (or_else o (first_super_method types t (signature_in r))))) f
+      ∙ ap (λ o. found_or (nothing_found types t) (or_else a (or_else b o))) g
+
+  -- by what it declares, by Object's public method, by the default and by the first superinterface method
+  pub of_interface_by : is_interface t ≡ true → (a b c d : Option Node) → declared types (signature_in r) t ≡ a → public_of_object types (signature_in r) ≡ b
+      → one_default types t (signature_in r) ≡ c → first_super_method types t (signature_in r) ≡ d → resolved types r ≡ found_or (nothing_found types t) (or_else a (or_else b (or_else c d)))
+  of_interface_by k a b c d e f g h =
+      interface_is k
+      ∙ ap (λ o. found_or (nothing_found types t) (or_else o (or_else (public_of_object types (signature_in r)) (found_above types (signature_in r) t)))) e
+      ∙ ap (λ o. found_or (nothing_found types t) (or_else a (or_else o (found_above types (signature_in r) t)))) f
+      ∙ ap (λ o. found_or (nothing_found types t) (or_else a (or_else b (or_else o (first_super_method types t (signature_in r)))))) g
+      ∙ ap (λ o. found_or (nothing_found types t) (or_else a (or_else b (or_else c o)))) h
+
+-- of an array, by the kind of the reference, by Object and by what Object declares
+pub array_mismatch : (types : List Placed) (r : Ref) → has_array_owner r ≡ true → r.owner_is_interface_ref ≡ true → resolved types r ≡ Failed KindMismatch
+array_mismatch types r e k = of_array types r e ∙ ap (λ b. cond b (Failed KindMismatch) (of_object types r (object types))) k
+
+pub array_by : (types : List Placed) (r : Ref) (o : Option Placed) → has_array_owner r ≡ true → r.owner_is_interface_ref ≡ false → object types ≡ o → resolved types r ≡ of_object types r o
+array_by types r o e k p =
+    of_array types r e ∙ ap (λ b. cond b (Failed KindMismatch) (of_object types r (object types))) k ∙ ap (of_object types r) p

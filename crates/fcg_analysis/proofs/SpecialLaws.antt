@@ -261,3 +261,13 @@ by_interface types x t r a i b k g =
     interface : ByKind types r t → is_interface t ≡ true
     interface (of_other_kind q w) = absurd (let e : goes_on (resolved types r) ≡ false = ap goes_on (of_owner types r (Some t) a k ∙ w) in cc)
     interface (of_its_kind n found of w) = of_kind (is_interface t) (λ q. n (q ∙ sym b))
+
+-- ---- by a class
+
+pub by_class : (types : List Placed) (x t : Placed) (r : Ref) → is_init r ≡ false → goes_on (resolved types r) ≡ true → search_start types x r ≡ Some t → is_class t ≡ true
+    → special types x r ≡ or_else (searched types (wanted (signature_in r)) (chain types t)) (one_default types t (signature_in r))
+by_class types x t r i g k c =
+    no_init types x r i
+    ∙ ap (λ o. cond (not (goes_on (resolved types r))) None (option_and_then (found_from types (signature_in r)) o)) k
+    ∙ ap (λ v. cond (not v) None (found_from types (signature_in r) t)) g
+    ∙ ap (λ v. or_else (searched types (wanted (signature_in r)) (chain types t)) (or_else (cond v (public_of_object types (signature_in r)) None) (one_default types t (signature_in r)))) (not-true (is_interface t) c)

@@ -1,17 +1,17 @@
 //! Laws of resolution, of overriding and selection, and of special calls.
-ghost use Rattle.std.specs.Prelude.{◌≡◌, ◌↔◌, true, false, List, [], ◌∷◌, Contains, drop, Bool, not, ◌&&◌, ◌||◌, Some, None, is_some, find};
+ghost use Rattle.std.specs.Prelude.{◌≡◌, ◌↔◌, true, false, List, [], ◌∷◌, Contains, drop, Bool, not, ◌&&◌, ◌||◌, Some, None, is_some, find, if◌then◌else◌};
 ghost use Rattle.std.specs.List.{IsDistinct, list_any};
 ghost use Rattle.fcg_views.specs.declared.view.Ref.{Ref};
 ghost use Rattle.fcg_analysis.specs.NamesAndFlags.{or_else, found_in};
 ghost use Rattle.fcg_analysis.specs.Declarations.{Placed, Signature, signature_in, has_signature, has_array_owner, is_named, is_type, is_class, is_interface, is_public, is_private, is_protected, is_package_private, is_instance, signature_of};
 ghost use Rattle.fcg_analysis.specs.Types.{type_named, object, superclass, chain, has_gap};
-ghost use Rattle.fcg_analysis.specs.Nodes.{Node, nodes, declared, one_default};
+ghost use Rattle.fcg_analysis.specs.Nodes.{Node, nodes, declared, one_default, first_super_method};
 ghost use Rattle.fcg_analysis.specs.Resolution.{Found, Phantom, Failed, KindMismatch, NoSuchMethod, resolved, public_of_object};
 ghost use Rattle.fcg_analysis.specs.Selection.{same_package, overrides_directly, is_candidate, can_override, can_override_phantom, searched, selected};
-ghost use Rattle.fcg_analysis.specs.Special.{is_superclass_name, found_from, is_init, goes_on, special};
+ghost use Rattle.fcg_analysis.specs.Special.{is_superclass_name, search_start, found_from, is_init, goes_on, special};
 ghost use Rattle.fcg_analysis.specs.Laws.Statements.{IsAcyclic, line_above, chain_above};
 ghost use Rattle.fcg_analysis.specs.Laws.Methods.{IsSingle};
-ghost use Rattle.fcg_analysis.specs.Laws.Searches.{IsMismatch, IsFirst};
+ghost use Rattle.fcg_analysis.specs.Laws.Searches.{IsMismatch, HasOwner, IsFirst};
 ghost use Rattle.fcg_analysis.specs.Laws.HandedOn.{where_passes, passes_at, is_open, handed_on, overrides_alike};
 
 /// A resolved method is a node of the reference's name and descriptor.
@@ -33,6 +33,34 @@ pub fn outcomes_have_causes()
 pub fn resolution_goes_on()
     ensures own { (types : List Placed) → IsAcyclic types → (r : Ref) (t : Placed) (m : Node) → has_array_owner r ≡ false → type_named types r.owner ≡ Some t → is_interface t ≡ r.owner_is_interface_ref → declared types (signature_in r) t ≡ Some m → resolved types r ≡ Found m }
     ensures on { (types : List Placed) → IsAcyclic types → (t : Placed) (s : Signature) → Contains types t → found_in (declared types s) (chain types t) ≡ or_else (declared types s t) (found_in (declared types s) (chain_above types t (superclass types t))) }
+{}
+
+/// Of a class comes what its chain declares, else its one default, else its first superinterface method (JVMS 5.4.3.3); else it is
+/// a phantom where there is a gap, and a failure where there is none.
+pub fn resolution_of_classes()
+    ensures in_chain { (types : List Placed) (r : Ref) (t : Placed) (m : Node) → HasOwner types r t → is_class t ≡ true → found_in (declared types (signature_in r)) (chain types t) ≡ Some m → resolved types r ≡ Found m }
+    ensures by_default { (types : List Placed) (r : Ref) (t : Placed) (m : Node) → HasOwner types r t → is_class t ≡ true → found_in (declared types (signature_in r)) (chain types t) ≡ None → one_default types t (signature_in r) ≡ Some m → resolved types r ≡ Found m }
+    ensures of_first { (types : List Placed) (r : Ref) (t : Placed) (m : Node) → HasOwner types r t → is_class t ≡ true → found_in (declared types (signature_in r)) (chain types t) ≡ None → one_default types t (signature_in r) ≡ None → first_super_method types t (signature_in r) ≡ Some m → resolved types r ≡ Found m }
+    ensures none { (types : List Placed) (r : Ref) (t : Placed) → HasOwner types r t → is_class t ≡ true → found_in (declared types (signature_in r)) (chain types t) ≡ None → first_super_method types t (signature_in r) ≡ None → resolved types r ≡ (if has_gap types t then Phantom else Failed NoSuchMethod) }
+{}
+
+/// Of an interface comes what it declares, else the public instance method of Object, else its one default, else its first
+/// superinterface method (JVMS 5.4.3.4); else it is a phantom where there is a gap, and a failure where there is none.
+pub fn resolution_of_interfaces()
+    ensures own { (types : List Placed) (r : Ref) (t : Placed) (m : Node) → HasOwner types r t → is_interface t ≡ true → declared types (signature_in r) t ≡ Some m → resolved types r ≡ Found m }
+    ensures of_object { (types : List Placed) (r : Ref) (t : Placed) (m : Node) → HasOwner types r t → is_interface t ≡ true → declared types (signature_in r) t ≡ None → public_of_object types (signature_in r) ≡ Some m → resolved types r ≡ Found m }
+    ensures by_default { (types : List Placed) (r : Ref) (t : Placed) (m : Node) → HasOwner types r t → is_interface t ≡ true → declared types (signature_in r) t ≡ None → public_of_object types (signature_in r) ≡ None → one_default types t (signature_in r) ≡ Some m → resolved types r ≡ Found m }
+    ensures of_first { (types : List Placed) (r : Ref) (t : Placed) (m : Node) → HasOwner types r t → is_interface t ≡ true → declared types (signature_in r) t ≡ None → public_of_object types (signature_in r) ≡ None → one_default types t (signature_in r) ≡ None → first_super_method types t (signature_in r) ≡ Some m → resolved types r ≡ Found m }
+    ensures none { (types : List Placed) (r : Ref) (t : Placed) → HasOwner types r t → is_interface t ≡ true → declared types (signature_in r) t ≡ None → public_of_object types (signature_in r) ≡ None → first_super_method types t (signature_in r) ≡ None → resolved types r ≡ (if has_gap types t then Phantom else Failed NoSuchMethod) }
+{}
+
+/// A Methodref to an array resolves to what Object declares itself: it is a phantom where Object is absent, and a failure where
+/// Object has no such method. An InterfaceMethodref to an array fails.
+pub fn resolution_of_arrays()
+    ensures mismatch { (types : List Placed) (r : Ref) → has_array_owner r ≡ true → r.owner_is_interface_ref ≡ true → resolved types r ≡ Failed KindMismatch }
+    ensures unknown { (types : List Placed) (r : Ref) → has_array_owner r ≡ true → r.owner_is_interface_ref ≡ false → object types ≡ None → resolved types r ≡ Phantom }
+    ensures own { (types : List Placed) (r : Ref) (o : Placed) (m : Node) → has_array_owner r ≡ true → r.owner_is_interface_ref ≡ false → object types ≡ Some o → declared types (signature_in r) o ≡ Some m → resolved types r ≡ Found m }
+    ensures absent { (types : List Placed) (r : Ref) (o : Placed) → has_array_owner r ≡ true → r.owner_is_interface_ref ≡ false → object types ≡ Some o → declared types (signature_in r) o ≡ None → resolved types r ≡ Failed NoSuchMethod }
 {}
 
 /// Each instance method but a private one can override itself; a private one overrides nothing; a public or protected one is
@@ -91,6 +119,11 @@ pub fn special_calls_start()
     ensures by_interface_ref { (types : List Placed) (x : Placed) (r : Ref) → is_init r ≡ false → r.owner_is_interface_ref ≡ true → type_named types r.owner ≡ None → special types x r ≡ None }
     ensures other { (types : List Placed) (x y : Placed) (r : Ref) → is_superclass_name types x r.owner ≡ false → is_superclass_name types y r.owner ≡ false → special types x r ≡ special types y r }
     ensures at_name { (types : List Placed) (x t : Placed) (r : Ref) (m : Node) → has_array_owner r ≡ false → is_init r ≡ false → is_superclass_name types x r.owner ≡ false → type_named types r.owner ≡ Some t → is_class t ≡ true → resolved types r ≡ Found m → is_instance m.method ≡ true → list_any (λ u. is_type u m.owner) (chain types t) ≡ true → special types x r ≡ Some m }
+{}
+
+/// A special call that starts at a class takes the first instance method of its chain, else its one default.
+pub fn special_calls_by_classes()
+    ensures { (types : List Placed) (x t : Placed) (r : Ref) → is_init r ≡ false → goes_on (resolved types r) ≡ true → search_start types x r ≡ Some t → is_class t ≡ true → special types x r ≡ or_else (searched types (λ m. has_signature (signature_in r) m.method && is_instance m.method) (chain types t)) (one_default types t (signature_in r)) }
 {}
 
 /// A special call by an interface takes its own instance method, else Object's public one, else its one default.

@@ -3,7 +3,7 @@ use Rattle.std.specs.Prelude.{◌≡◌, true, false, List, ◌∷◌, ◌++◌,
 use Rattle.std.specs.List.{list_any}
 use Rattle.fcg_views.specs.declared.view.Ref.{Ref}
 use Rattle.fcg_views.specs.declared.view.Site.{Site}
-use Rattle.fcg_analysis.specs.Declarations.{Placed, signature_in, is_type, is_class}
+use Rattle.fcg_analysis.specs.Declarations.{Placed, signature_in, is_type, is_class, is_interface, has_array_owner}
 use Rattle.fcg_analysis.specs.Types.{type_named}
 use Rattle.fcg_analysis.specs.Nodes.{Node, nodes, is_node}
 use Rattle.fcg_analysis.specs.Resolution.{resolved}
@@ -15,6 +15,12 @@ pub record IsMismatch (types : List Placed) (r : Ref) : Type 0 where
   pub owner : Placed
   pub known' : type_named types r.owner ≡ Some owner
   pub kind : is_class owner ≡ r.owner_is_interface_ref
+
+-- t is the known owner of the reference, and of its kind
+pub record HasOwner (types : List Placed) (r : Ref) (t : Placed) : Type 0 where
+  pub no_array : has_array_owner r ≡ false
+  pub known' : type_named types r.owner ≡ Some t
+  pub kind : is_interface t ≡ r.owner_is_interface_ref
 
 -- c is of the first type of the line that declares a method which passes
 pub record IsFirst (types : List Placed) (test : Node → Bool) (line : List Placed) (c : Node) : Type 0 where

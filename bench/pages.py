@@ -103,9 +103,13 @@ class Definitions:
 
 
 def public_items(crate):
+    """The names that the crate exports, with those of its public modules."""
     items = set()
-    for names, name in re.findall(r'pub use [\w:]+::(?:\{([^}]*)\}|(\w+));', read(f'{TOP}/crates/{crate}/src/lib.rt')):
+    root = read(f'{TOP}/crates/{crate}/src/lib.rt')
+    for names, name in re.findall(r'pub use [\w:]+::(?:\{([^}]*)\}|(\w+));', root):
         items |= {item.strip() for item in (names or name).split(',') if item.strip()}
+    for module in re.findall(r'^pub mod (\w+);', root, re.M):
+        items |= set(re.findall(r'^pub (?:fn|struct|enum|trait) (\w+)', read(f'{TOP}/crates/{crate}/src/{module}.rt'), re.M))
     return items
 
 

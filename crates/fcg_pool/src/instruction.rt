@@ -16,8 +16,9 @@ use fcg_grammar::{read_part, read_u1, read_u4};
 #[derive(Clone, Copy, Debug, PartialEq, Eq)]
 pub struct Instruction {
     pub opcode: u8,
-    /// The number of the two bytes after the opcode, which are the first of the padding for some switches, and the opcode
-    /// that is made wide and a byte for `wide`. It is 0 where the instruction has fewer bytes.
+    /// The number of the two bytes after the opcode: of a `tableswitch` or `lookupswitch` the first of its padding or of its
+    /// default, of `wide` the opcode that is made wide and the first byte of its operands. It is 0 where an instruction has
+    /// fewer than two bytes after its opcode.
     pub operand: u16,
     /// The place of the next instruction, in bytes from the code's start; after the last one the code's length. A place
     /// that is too large is given as the last value.

@@ -5,7 +5,7 @@ ghost use Rattle.fcg_classfile.specs.Instructions.{form_of, Fixed, wide_of, move
 ghost use Rattle.fcg_classfile.specs.Sites.{site_form, is_dynamic};
 ghost use Rattle.fcg_classfile.specs.Breaks.Instructions.{passed, table_at, lookup_at, wide_at, formed_at, next_at, operand_in, operand_at};
 ghost use Rattle.fcg_pool.specs.CodeValues.{place_given};
-ghost use Rattle.fcg_pool.specs.Internal.Layout.{form_seen, form_told, least_after};
+ghost use Rattle.fcg_pool.specs.Internal.Layout.{form_seen, form_of_number, least_after};
 ghost use Rattle.fcg_pool.specs.declared.instruction.TheConstants.{LAYOUTS};
 
 use crate::constant::u2_in;
@@ -58,8 +58,8 @@ fn layout_number(opcode: u8) -> u8
 }
 
 // What a number of the table tells.
-fn layout_told(number: u8) -> Option<Layout>
-    ensures { form_seen result ≡ form_told number }
+fn layout_of_number(number: u8) -> Option<Layout>
+    ensures { form_seen result ≡ form_of_number number }
 {
     match number {
         0..=4 => Some(Layout::Fixed(usize::from(number))),
@@ -73,11 +73,11 @@ fn layout_told(number: u8) -> Option<Layout>
 }
 
 // What follows an opcode. It is asked for each instruction, and a table tells it in the fewest steps.
-#[tactic(auto, using(crate::proofs::Layouts::layout_told))]
+#[tactic(auto, using(crate::proofs::Layouts::layout_of_number))]
 fn layout_of(opcode: u8) -> Option<Layout>
     ensures { form_seen result ≡ form_of opcode }
 {
-    layout_told(layout_number(opcode))
+    layout_of_number(layout_number(opcode))
 }
 
 // How many bytes follow an opcode that is made wide.

@@ -14,7 +14,7 @@ pub enum CodeRule {
 }
 
 /// An `invokedynamic` of a method's code (JVMS 6.5).
-#[derive(Clone, Copy, Debug, PartialEq, Eq)]
+#[derive(Clone, Copy)]
 pub struct DynamicCall {
     /// The place of its opcode in the code, in bytes.
     pub pc: u16,

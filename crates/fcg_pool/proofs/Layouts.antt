@@ -11,15 +11,15 @@ use Rattle.fcg_classfile.specs.Instructions.{Form, form_of, Fixed, Table, Lookup
 use Rattle.fcg_classfile.specs.Sites.{SiteForm, site_form, is_dynamic}
 use Rattle.fcg_classfile.specs.Breaks.Instructions.{passed, formed_at, next_at}
 use Rattle.fcg_classfile.proofs.InstructionPlaces.{next_at_is}
-use Rattle.fcg_pool.specs.Internal.Layout.{form_told}
+use Rattle.fcg_pool.specs.Internal.Layout.{form_of_number}
 use Rattle.fcg_pool.specs.declared.instruction.TheConstants.{LAYOUTS}
 
-all_told : map form_told LAYOUTS ≡ map form_of (range_with_len 0 256)
+all_told : map form_of_number LAYOUTS ≡ map form_of (range_with_len 0 256)
 all_told = refl
 
-pub layout_told : (opcode : ℕ) → opcode < 256 → form_told (get_or LAYOUTS opcode 0) ≡ form_of opcode
-layout_told opcode lt =
-    sym (get_or-map form_told LAYOUTS opcode 0 None lt) ∙ ap (λ forms. get_or forms opcode None) all_told ∙ get_or-map-range_with_len form_of 0 256 opcode opcode None lt (omega arith)
+pub layout_of_number : (opcode : ℕ) → opcode < 256 → form_of_number (get_or LAYOUTS opcode 0) ≡ form_of opcode
+layout_of_number opcode lt =
+    sym (get_or-map form_of_number LAYOUTS opcode 0 None lt) ∙ ap (λ forms. get_or forms opcode None) all_told ∙ get_or-map-range_with_len form_of 0 256 opcode opcode None lt (omega arith)
 
 -- ---- the opcodes without a site or a call
 
@@ -52,7 +52,7 @@ plain_call opcode lt few = (neither (site_form opcode) (is_dynamic opcode) (unna
 
 -- ---- the instructions after which their opcodes tell the place
 
-told_fixed : (n : ℕ) → n < 5 → form_told n ≡ Some (Fixed n)
+told_fixed : (n : ℕ) → n < 5 → form_of_number n ≡ Some (Fixed n)
 told_fixed n lt = rw (small n lt) refl
   where
     small : (n : ℕ) → n < 5 → nat_le n 4 ≡ true
@@ -70,7 +70,7 @@ plain_next code at lt byte few room =
     let n = get_or LAYOUTS (get_or code at 0) 0 in
     let sum : at + 1 + n ≡ at + (n + 1) = omega arith in
     next_at_is code at lt
-    ∙ ap (λ (form : Option Form). formed_at code at form) (sym (layout_told (get_or code at 0) byte) ∙ told_fixed n few)
+    ∙ ap (λ (form : Option Form). formed_at code at form) (sym (layout_of_number (get_or code at 0) byte) ∙ told_fixed n few)
     ∙ passed_whole code (at + 1) n (omega (arith, room, lt))
     ∙ ap (λ (m : ℕ). Ok m) sum
 
@@ -89,7 +89,7 @@ only_few m n false false true wide is = absurd cc
 only_few m n false false false true is = absurd cc
 only_few m n false false false false is = absurd cc
 
-told_only : (m n : ℕ) → nat_lt 8 m ≡ false → form_told m ≡ Some (Fixed n) → (m ≡ n) × (n < 5)
+told_only : (m n : ℕ) → nat_lt 8 m ≡ false → form_of_number m ≡ Some (Fixed n) → (m ≡ n) × (n < 5)
 unfolding chosen
 told_only m n small is =
     let two : (m == 9) ≡ false = grind (arith, nat_tests) in
@@ -104,4 +104,4 @@ told_only m n small is =
 pub plain_told : (opcode n : ℕ) → opcode < 256 → form_of opcode ≡ Some (Fixed n) → site_form opcode ≡ None → is_dynamic opcode ≡ false → (get_or LAYOUTS opcode 0 ≡ n) × (n < 5)
 plain_told opcode n lt form site call =
     let unnamed : names opcode ≡ false = rw (site, call) refl in
-    told_only (get_or LAYOUTS opcode 0) n (numbered opcode lt ∙ unnamed) (layout_told opcode lt ∙ form)
+    told_only (get_or LAYOUTS opcode 0) n (numbered opcode lt ∙ unnamed) (layout_of_number opcode lt ∙ form)

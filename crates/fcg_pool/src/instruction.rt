@@ -5,7 +5,7 @@ ghost use Rattle.fcg_classfile.specs.Instructions.{form_of, Fixed, wide_of, move
 ghost use Rattle.fcg_classfile.specs.Sites.{site_form, is_dynamic};
 ghost use Rattle.fcg_classfile.specs.Breaks.Instructions.{passed, table_at, lookup_at, wide_at, formed_at, next_at, operand_in, operand_at};
 ghost use Rattle.fcg_pool.specs.CodeValues.{place_given};
-ghost use Rattle.fcg_pool.specs.Internal.Layout.{form_seen, form_told, least_after};
+ghost use Rattle.fcg_pool.specs.Internal.Layout.{form_seen, form_of_number, least_after};
 ghost use Rattle.fcg_pool.specs.declared.instruction.TheConstants.{LAYOUTS};
 
 use crate::constant::u2_in;
@@ -16,8 +16,9 @@ use fcg_grammar::{read_part, read_u1, read_u4};
 #[derive(Clone, Copy, Debug, PartialEq, Eq)]
 pub struct Instruction {
     pub opcode: u8,
-    /// The number of the two bytes after the opcode, which are the first of the padding for some switches, and the opcode
-    /// that is made wide and a byte for `wide`. It is 0 where the instruction has fewer bytes.
+    /// The number of the two bytes after the opcode: of a `tableswitch` or `lookupswitch` the first of its padding or of its
+    /// default, of `wide` the opcode that is made wide and the first byte of its operands. It is 0 where an instruction has
+    /// fewer than two bytes after its opcode.
     pub operand: u16,
     /// The place of the next instruction, in bytes from the code's start; after the last one the code's length. A place
     /// that is too large is given as the last value.
@@ -57,8 +58,8 @@ fn layout_number(opcode: u8) -> u8
 }
 
 // What a number of the table tells.
-fn layout_told(number: u8) -> Option<Layout>
-    ensures { form_seen result ≡ form_told number }
+fn layout_of_number(number: u8) -> Option<Layout>
+    ensures { form_seen result ≡ form_of_number number }
 {
     match number {
         0..=4 => Some(Layout::Fixed(usize::from(number))),
@@ -72,11 +73,11 @@ fn layout_told(number: u8) -> Option<Layout>
 }
 
 // What follows an opcode. It is asked for each instruction, and a table tells it in the fewest steps.
-#[tactic(auto, using(crate::proofs::Layouts::layout_told))]
+#[tactic(auto, using(crate::proofs::Layouts::layout_of_number))]
 fn layout_of(opcode: u8) -> Option<Layout>
     ensures { form_seen result ≡ form_of opcode }
 {
-    layout_told(layout_number(opcode))
+    layout_of_number(layout_number(opcode))
 }
 
 // How many bytes follow an opcode that is made wide.

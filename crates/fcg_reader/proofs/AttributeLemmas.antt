@@ -10,7 +10,7 @@ use Rattle.fcg_classfile.specs.Breaks.Fault.{fault}
 use Rattle.fcg_classfile.specs.Breaks.Pool.{Entries}
 use Rattle.fcg_views.specs.Valid.{is_same}
 use Rattle.fcg_classfile.specs.Breaks.Attributes.{up_to, text_at, content_at, AttributesBefore, one_read_at, other_at, one_at}
-use Rattle.fcg_reader.specs.Internal.Attributes.{begun_one}
+use Rattle.fcg_reader.specs.Internal.Attributes.{one_named}
 
 -- whether it has the name, and the place after it
 abbrev with_place : Bool → ℕ → Result (Bool × ℕ) ClassFault
@@ -34,8 +34,8 @@ none_or_some None = refl
 none_or_some (Some a) = refl
 
 module _ {X : Type 0} (word : List ℕ) (twice : ClassRule) (said_at : Entries → ℕ → Result X ClassFault) (pool : Entries) (k at : ℕ) (read : Option (ℕ × X)) where
-  abbrev begun : AttributesBefore X
-  begun = record { at = at; read = read }
+  abbrev before : AttributesBefore X
+  before = record { at = at; read = read }
 
   abbrev said : ℕ → Result (Unit {0} × AttributesBefore X) ClassFault
   said after = said_at (up_to after pool) (at + 6) >>= λ x. Ok (tt, record { at = after; read = Some (at, x) })
@@ -43,28 +43,28 @@ module _ {X : Type 0} (word : List ℕ) (twice : ClassRule) (said_at : Entries �
   abbrev passed : ℕ → Result (Unit {0} × AttributesBefore X) ClassFault
   passed after = Ok (tt, record { at = after; read = read })
 
-  one_is : one_at word twice said_at pool k begun ≡ (begun_one pool at word twice (is_some read) >>= by_name said passed)
-  unfolding one_at one_read_at begun_one
+  one_is : one_at word twice said_at pool k before ≡ (one_named pool at word twice (is_some read) >>= by_name said passed)
+  unfolding one_at one_read_at one_named
   one_is = go (text_at pool at)
     where
       go : (name : Result (List ℕ) ClassFault)
-          → (name >>= λ n. if is_same n word then one_read_at word twice said_at pool begun else other_at word twice said_at pool begun)
+          → (name >>= λ n. if is_same n word then one_read_at word twice said_at pool before else other_at word twice said_at pool before)
           ≡ ((name >>= λ n. unless_broken (not (is_same n word && is_some read)) (fault at 0 twice) >>= λ once. content_at pool at >>= with_place (is_same n word)) >>= by_name said passed)
       go (Ok n) = rw (none_or_some read) (tested (is_same n word) (is_some read) (fault at 0 twice) (content_at pool at) said passed)
       go (Err f) = refl
 
   -- the name or the length is broken, or it is a second one
-  pub one_broken : (f : ClassFault) → begun_one pool at word twice (is_some read) ≡ Err f → one_at word twice said_at pool k begun ≡ Err f
+  pub one_broken : (f : ClassFault) → one_named pool at word twice (is_some read) ≡ Err f → one_at word twice said_at pool k before ≡ Err f
   one_broken f is = one_is ∙ rw is refl
 
   -- one of another name
-  pub one_passed : (after : ℕ) → begun_one pool at word twice (is_some read) ≡ Ok (false, after) → one_at word twice said_at pool k begun ≡ Ok (tt, record { at = after; read = read })
+  pub one_passed : (after : ℕ) → one_named pool at word twice (is_some read) ≡ Ok (false, after) → one_at word twice said_at pool k before ≡ Ok (tt, record { at = after; read = read })
   one_passed after is = one_is ∙ rw is refl
 
   -- What it says is broken, or there was no memory for it.
-  pub one_fails : (after : ℕ) (e : ReadError ClassFault) → begun_one pool at word twice (is_some read) ≡ Ok (true, after) → Fails e (said_at (up_to after pool) (at + 6)) → Fails e (one_at word twice said_at pool k begun)
+  pub one_fails : (after : ℕ) (e : ReadError ClassFault) → one_named pool at word twice (is_some read) ≡ Ok (true, after) → Fails e (said_at (up_to after pool) (at + 6)) → Fails e (one_at word twice said_at pool k before)
   one_fails after errors.NoMemory is fails = tt
   one_fails after (errors.Fault f) is fails = one_is ∙ rw (is, fails) refl
 
-  pub one_read : (after : ℕ) (x : X) → begun_one pool at word twice (is_some read) ≡ Ok (true, after) → said_at (up_to after pool) (at + 6) ≡ Ok x → one_at word twice said_at pool k begun ≡ Ok (tt, record { at = after; read = Some (at, x) })
+  pub one_read : (after : ℕ) (x : X) → one_named pool at word twice (is_some read) ≡ Ok (true, after) → said_at (up_to after pool) (at + 6) ≡ Ok x → one_at word twice said_at pool k before ≡ Ok (tt, record { at = after; read = Some (at, x) })
   one_read after x is says = one_is ∙ rw (is, says) refl

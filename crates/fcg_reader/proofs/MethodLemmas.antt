@@ -28,7 +28,7 @@ use Rattle.fcg_classfile.specs.Breaks.Pool.{Entries}
 use Rattle.fcg_classfile.specs.Breaks.Attributes.{AttributesBefore, ones_at}
 use Rattle.fcg_classfile.specs.Breaks.Code.{code_at}
 use Rattle.fcg_classfile.specs.Breaks.Members.{Declared, Unfinished, MethodsBefore, unfinished, declared_at, method_at}
-use Rattle.fcg_reader.specs.Internal.Members.{begun, GivesNext}
+use Rattle.fcg_reader.specs.Internal.Members.{methods_before, GivesNext}
 use Rattle.fcg_classfile.proofs.WordLaws.{same_text}
 use Rattle.fcg_reader.proofs.FirstLemmas.{same_first, one_text, at_bool, both_equal}
 use Rattle.fcg_reader.specs.Internal.FirstIndexes.{Known, first_in, AreKnown, Grows, AreAsked}
@@ -182,19 +182,19 @@ abbrev pub attributes_of : Entries → ℕ → ℕ → Result (AttributesBefore 
 attributes_of pool count at = ones_at (codes "Code") DoubleCode (code_at count) pool at
 
 -- an earlier one is alike
-pub method_at-doubled : (pool : Entries) (k at : ℕ) (methods : List Unfinished) (d : Declared) → declared_at pool is_descriptor at ≡ Ok d → list_any (is_signature d.name d.desc) (methods_of methods) ≡ true → method_at pool k (begun at methods) ≡ Err (fault at 0 DoubleMethod)
+pub method_at-doubled : (pool : Entries) (k at : ℕ) (methods : List Unfinished) (d : Declared) → declared_at pool is_descriptor at ≡ Ok d → list_any (is_signature d.name d.desc) (methods_of methods) ≡ true → method_at pool k (methods_before at methods) ≡ Err (fault at 0 DoubleMethod)
 unfolding method_at
 method_at-doubled pool k at methods d is doubled = rw (is, doubled) refl
 
 -- Its attributes are broken, or there was no memory for them.
 pub method_at-broken : (pool : Entries) (k at : ℕ) (methods : List Unfinished) (d : Declared) (e : ReadError ClassFault) → declared_at pool is_descriptor at ≡ Ok d → list_any (is_signature d.name d.desc) (methods_of methods) ≡ false
-    → Fails e (attributes_of pool (site_count (methods_of methods)) (at + 6)) → Fails e (method_at pool k (begun at methods))
+    → Fails e (attributes_of pool (site_count (methods_of methods)) (at + 6)) → Fails e (method_at pool k (methods_before at methods))
 unfolding method_at
 method_at-broken pool k at methods d errors.NoMemory is fresh broken = tt
 method_at-broken pool k at methods d (errors.Fault f) is fresh broken = rw (is, fresh, broken) refl
 
 pub method_at-read : (pool : Entries) (k at : ℕ) (methods : List Unfinished) (d : Declared) (read : AttributesBefore Found) → declared_at pool is_descriptor at ≡ Ok d → list_any (is_signature d.name d.desc) (methods_of methods) ≡ false
-    → attributes_of pool (site_count (methods_of methods)) (at + 6) ≡ Ok read → method_at pool k (begun at methods) ≡ Ok (unfinished d read.read, begun read.at (methods ++ unfinished d read.read ∷ []))
+    → attributes_of pool (site_count (methods_of methods)) (at + 6) ≡ Ok read → method_at pool k (methods_before at methods) ≡ Ok (unfinished d read.read, methods_before read.at (methods ++ unfinished d read.read ∷ []))
 unfolding method_at
 method_at-read pool k at methods d read is fresh attributes = rw (is, fresh, attributes, methods_of-push methods (unfinished d read.read)) refl
 
@@ -202,9 +202,9 @@ method_at-read pool k at methods d read is fresh attributes = rw (is, fresh, att
 
 -- a row more
 pub row_more : (pool now : Entries) (count k place after : ℕ) (old new : List Unfinished) (total : Result (List Unfinished × MethodsBefore) ClassFault) → now ≡ pool → k < count
-    → GivesNext (Ok after) old new (method_at pool k (begun place old)) → with_front old (rows (method_at pool) (count - k) k (begun place old)) ≡ total
-    → with_front new (rows (method_at now) (count - (k + 1)) (k + 1) (begun after new)) ≡ total
+    → GivesNext (Ok after) old new (method_at pool k (methods_before place old)) → with_front old (rows (method_at pool) (count - k) k (methods_before place old)) ≡ total
+    → with_front new (rows (method_at now) (count - (k + 1)) (k + 1) (methods_before after new)) ≡ total
 row_more pool now count k place after old new total same lt given so_far =
-    let next = rows_go_on (method_at pool) old count k (begun place old) given.0 (begun after new) total lt given.2 so_far in
-    let here = subst (λ (p : Entries). with_front (old ++ given.0 ∷ []) (rows (method_at p) (count - (k + 1)) (k + 1) (begun after new)) ≡ total) (sym same) next in
-    subst (λ (ms : List Unfinished). with_front ms (rows (method_at now) (count - (k + 1)) (k + 1) (begun after new)) ≡ total) (sym given.1) here
+    let next = rows_go_on (method_at pool) old count k (methods_before place old) given.0 (methods_before after new) total lt given.2 so_far in
+    let here = subst (λ (p : Entries). with_front (old ++ given.0 ∷ []) (rows (method_at p) (count - (k + 1)) (k + 1) (methods_before after new)) ≡ total) (sym same) next in
+    subst (λ (ms : List Unfinished). with_front ms (rows (method_at now) (count - (k + 1)) (k + 1) (methods_before after new)) ≡ total) (sym given.1) here

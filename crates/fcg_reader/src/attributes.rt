@@ -5,7 +5,7 @@ ghost use Rattle.fcg_grammar.specs.Rows.{rows, ended};
 ghost use Rattle.fcg_classfile.specs.Breaks.Pool.{Entries};
 ghost use Rattle.fcg_views.specs.Valid.{is_same};
 ghost use Rattle.fcg_classfile.specs.Breaks.Attributes.{over, content_at, attribute_at, attributes_at};
-ghost use Rattle.fcg_reader.specs.Internal.Attributes.{begun_one};
+ghost use Rattle.fcg_reader.specs.Internal.Attributes.{one_named};
 
 use crate::number::{read_part, read_u2, read_u4};
 use crate::text::find_text;
@@ -72,8 +72,8 @@ fn is_same(name: &[u8], word: &[u8]) -> bool
 /// content. `again` says that an attribute of this name stood before: then a second one is the fault `twice` at its
 /// name. Its content, from six bytes after its place on, isn't looked at. Takes a few loads and a comparison of its
 /// name.
-#[tactic(auto, unfolding(crate::specs::Internal::Attributes::begun_one))]
-pub fn begin_one(
+#[tactic(auto, unfolding(crate::specs::Internal::Attributes::one_named))]
+pub fn pass_named(
     pool: &Pool<'_>,
     bytes: &[u8],
     at: usize,
@@ -82,7 +82,7 @@ pub fn begin_one(
     again: bool,
 ) -> Result<(bool, usize), ClassFault>
     requires { at ≤ length bytes.now }
-    ensures value { result ≡ begun_one (over bytes.now pool.now) at word.now twice again }
+    ensures value { result ≡ one_named (over bytes.now pool.now) at word.now twice again }
     ensures inside { IfOk result (λ x. (at + 6 ≤ x.1) × (x.1 ≤ length bytes.now)) }
 {
     let name = find_text(pool, bytes, at)?;

@@ -11,9 +11,9 @@ ghost use Rattle.fcg_classfile.specs.Reads.{Reads};
 ghost use Rattle.fcg_classfile.specs.Breaks.Fault.{in_pool};
 ghost use Rattle.fcg_classfile.specs.Breaks.Pool.{pool_at};
 ghost use Rattle.fcg_classfile.specs.Breaks.Class.{header_kept, type_at, super_at, interface_at, interfaces_at, rows_or_none, members_at, body_at, shown, class_of};
-ghost use Rattle.fcg_reader.specs.Internal.Class.{rows_said, rows_seen, class_begun, rows_ended, GivesRows};
+ghost use Rattle.fcg_reader.specs.Internal.Class.{rows_said, rows_seen, rows_before, rows_ended, GivesRows};
 
-use crate::attributes::begin_one;
+use crate::attributes::pass_named;
 use crate::bootstrap::{Row, read_rows};
 use crate::fields::read_fields;
 use crate::finish::finish_methods;
@@ -151,12 +151,12 @@ fn read_attribute(
     found: Option<Vec<Row>>,
 ) -> Result<(usize, Option<Vec<Row>>), ReadError<ClassFault>>
     requires { at ≤ length pool.now.bytes }
-    ensures value { (k : ℕ) (read : Option (ℕ × List BootstrapMethod)) → rows_said read ≡ rows_seen found → GivesRows result (one_at (codes "BootstrapMethods") Bootstrap rows_at pool.now k (class_begun at read)) }
+    ensures value { (k : ℕ) (read : Option (ℕ × List BootstrapMethod)) → rows_said read ≡ rows_seen found → GivesRows result (one_at (codes "BootstrapMethods") Bootstrap rows_at pool.now k (rows_before at read)) }
     ensures inside { IfOk result (λ x. x.0 ≤ length pool.now.bytes) }
 {
     let bytes = pool.bytes();
     let again = found.is_some();
-    let (named, after) = begin_one(
+    let (named, after) = pass_named(
         pool,
         bytes,
         at,
@@ -189,7 +189,7 @@ fn read_attribute_rows(
     at: usize,
 ) -> Result<(Vec<Row>, usize), ReadError<ClassFault>>
     requires { at ≤ length pool.now.bytes }
-    ensures { Gives (λ x. (x.0.items, x.1)) result (seen rows_ended (ended (rows (one_at (codes "BootstrapMethods") Bootstrap rows_at pool.now) attributes 0 (class_begun at None)))) }
+    ensures { Gives (λ x. (x.0.items, x.1)) result (seen rows_ended (ended (rows (one_at (codes "BootstrapMethods") Bootstrap rows_at pool.now) attributes 0 (rows_before at None)))) }
 {
     let mut place = at;
     let mut found = None;

@@ -7,9 +7,9 @@ ghost use Rattle.fcg_classfile.specs.Breaks.Attributes.{one_at, ones_at};
 ghost use Rattle.fcg_classfile.specs.Breaks.Code.{code_at};
 ghost use Rattle.fcg_classfile.specs.Breaks.Members.{unfinished, method_at, methods_at};
 ghost use Rattle.fcg_reader.specs.Internal.Calls.{parts_of};
-ghost use Rattle.fcg_reader.specs.Internal.Members.{declared_of, AreTextsOf, GivesNext, begun, code_begun, code_sites};
+ghost use Rattle.fcg_reader.specs.Internal.Members.{declared_of, AreTextsOf, GivesNext, methods_before, code_before, code_sites};
 
-use crate::attributes::begin_one;
+use crate::attributes::pass_named;
 use crate::calls::{CodeCalls, Unfinished};
 use crate::code::{MethodCode, read_code};
 use crate::declared::{Declared, find_declared};
@@ -33,7 +33,7 @@ fn read_attribute(
     requires place { at ≤ length names.old.bytes }
     requires few { count ≤ 1000000 }
     requires counted { count + length (code_sites code) ≤ 1000000 }
-    ensures value { (k : ℕ) → Gives (λ x. (tt, code_begun x.0 x.1)) result (one_at (codes "Code") DoubleCode (code_at count) names.old k (code_begun at code)) }
+    ensures value { (k : ℕ) → Gives (λ x. (tt, code_before x.0 x.1)) result (one_at (codes "Code") DoubleCode (code_at count) names.old k (code_before at code)) }
     ensures few { IfOk result (λ x. count + length (code_sites x.1) ≤ 1000000) }
     ensures inside { IfOk result (λ x. x.0 ≤ length names.old.bytes) }
     ensures same { names.new ≡ names.old }
@@ -41,7 +41,7 @@ fn read_attribute(
     let pool = names.pool();
     let bytes = pool.bytes();
     let again = code.is_some();
-    let (named, after) = begin_one(
+    let (named, after) = pass_named(
         pool,
         bytes,
         at,
@@ -66,7 +66,7 @@ fn read_attribute_rows(
 ) -> Result<(usize, Option<MethodCode>), ReadError<ClassFault>>
     requires place { at ≤ length names.old.bytes }
     requires few { count ≤ 1000000 }
-    ensures value { Gives (λ x. code_begun x.0 x.1) result (ended (rows (one_at (codes "Code") DoubleCode (code_at count) names.old) attributes 0 (code_begun at None))) }
+    ensures value { Gives (λ x. code_before x.0 x.1) result (ended (rows (one_at (codes "Code") DoubleCode (code_at count) names.old) attributes 0 (code_before at None))) }
     ensures few { IfOk result (λ x. count + length (code_sites x.1) ≤ 1000000) }
     ensures inside { IfOk result (λ x. x.0 ≤ length names.old.bytes) }
     ensures same { names.new ≡ names.old }
@@ -91,7 +91,7 @@ fn read_attributes(
 ) -> Result<(usize, Option<MethodCode>), ReadError<ClassFault>>
     requires place { at ≤ length names.old.bytes }
     requires few { count ≤ 1000000 }
-    ensures value { Gives (λ x. code_begun x.0 x.1) result (ones_at (codes "Code") DoubleCode (code_at count) names.old at) }
+    ensures value { Gives (λ x. code_before x.0 x.1) result (ones_at (codes "Code") DoubleCode (code_at count) names.old at) }
     ensures few { IfOk result (λ x. count + length (code_sites x.1) ≤ 1000000) }
     ensures inside { IfOk result (λ x. x.0 ≤ length names.old.bytes) }
     ensures same { names.new ≡ names.old }
@@ -143,7 +143,7 @@ fn read_method<'a>(
 ) -> Result<usize, ReadError<ClassFault>>
     requires place { at ≤ length table.old.pool.bytes }
     requires pool { names.old ≡ table.old.pool }
-    ensures value { (k : ℕ) → GivesNext result table.old.methods table.new.methods (method_at table.old.pool k (begun at table.old.methods)) }
+    ensures value { (k : ℕ) → GivesNext result table.old.methods table.new.methods (method_at table.old.pool k (methods_before at table.old.methods)) }
     ensures inside { IfOk result (λ after. after ≤ length table.old.pool.bytes) }
     ensures same { (names.new ≡ names.old) × (table.new.pool ≡ table.old.pool) }
 {
@@ -168,7 +168,7 @@ fn read_method_rows(
     at: usize,
 ) -> Result<(Vec<Unfinished>, usize), ReadError<ClassFault>>
     requires { at ≤ length names.old.bytes }
-    ensures value { Gives (λ x. (x.0.items, begun x.1 x.0.items)) result (rows (method_at names.old) count 0 (begun at [])) }
+    ensures value { Gives (λ x. (x.0.items, methods_before x.1 x.0.items)) result (rows (method_at names.old) count 0 (methods_before at [])) }
     ensures few { IfOk result (λ x. sum_by (λ m. length m.0.sites) x.0.items ≤ 1000000) }
     ensures inside { IfOk result (λ x. x.1 ≤ length names.old.bytes) }
     ensures same { names.new ≡ names.old }

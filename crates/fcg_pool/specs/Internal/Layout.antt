@@ -22,7 +22,7 @@ least_after layouts.Lookup = 2
 least_after layouts.Wide = 2
 
 -- the form that a number of the table tells
-abbrev pub form_told : ℕ → Option Form
-form_told n =
+abbrev pub form_of_number : ℕ → Option Form
+form_of_number n =
     if nat_le n 4 then Some (Fixed n)
     else (if n == 5 then Some Table else (if n == 6 then Some Lookup else (if n == 7 then Some Wide else (if n == 9 then Some (Fixed 2) else (if n == 10 then Some (Fixed 4) else None)))))

@@ -10,8 +10,8 @@ use Rattle.fcg_classfile.specs.Breaks.Attributes.{text_at, content_at}
 
 -- whether an attribute has a name, and the place after its content; where one of the name was before, a second breaks a
 -- rule
-unfoldable pub begun_one : Entries → ℕ → List ℕ → ClassRule → Bool → Result (Bool × ℕ) ClassFault
-begun_one pool at word twice again = do
+unfoldable pub one_named : Entries → ℕ → List ℕ → ClassRule → Bool → Result (Bool × ℕ) ClassFault
+one_named pool at word twice again = do
   name ← text_at pool at
   once ← unless_broken (not (is_same name word && again)) (fault at 0 twice)
   after ← content_at pool at

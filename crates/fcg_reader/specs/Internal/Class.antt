@@ -18,14 +18,14 @@ rows_seen None = None
 rows_seen (Some rows) = Some rows.items
 
 -- the attributes of a class of which the next stands at a place, with what was read so far
-abbrev pub class_begun : ℕ → Option (ℕ × List BootstrapMethod) → AttributesBefore (List BootstrapMethod)
-class_begun at read = record { at = at; read = read }
+abbrev pub rows_before : ℕ → Option (ℕ × List BootstrapMethod) → AttributesBefore (List BootstrapMethod)
+rows_before at read = record { at = at; read = read }
 
 -- what was read of them, and the place after them
 abbrev pub rows_ended : AttributesBefore (List BootstrapMethod) → List BootstrapMethod × ℕ
-rows_ended begun = (rows_or_none begun.read, begun.at)
+rows_ended before = (rows_or_none before.read, before.at)
 
 -- the next attribute, and what was read, wherever it stands; or the fault
 abbrev pub GivesRows : Result (ℕ × Option (Vec BootstrapMethod)) (ReadError ClassFault) → Result (Unit {0} × AttributesBefore (List BootstrapMethod)) ClassFault → Type 0
-GivesRows (Ok x) read = (next : Option (ℕ × List BootstrapMethod)) × (rows_said next ≡ rows_seen x.1) × (read ≡ Ok (tt, class_begun x.0 next))
+GivesRows (Ok x) read = (next : Option (ℕ × List BootstrapMethod)) × (rows_said next ≡ rows_seen x.1) × (read ≡ Ok (tt, rows_before x.0 next))
 GivesRows (Err e) read = Fails e read

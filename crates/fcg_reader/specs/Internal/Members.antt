@@ -23,17 +23,17 @@ abbrev pub AreTextsOf : Entries → Declared → Type 0
 AreTextsOf pool d = IsTextOf pool d.name × IsTextOf pool d.desc
 
 -- the attributes of a method of which the next stands at a place, with the code so far
-abbrev pub code_begun : ℕ → Option (ℕ × Found) → AttributesBefore Found
-code_begun at code = record { at = at; read = code }
+abbrev pub code_before : ℕ → Option (ℕ × Found) → AttributesBefore Found
+code_before at code = record { at = at; read = code }
 
 -- the sites of a code, or none
 abbrev pub code_sites : Option (ℕ × Found) → List Site
 code_sites code = (parts_of code).0
 
-abbrev pub begun : ℕ → List Unfinished → MethodsBefore
-begun at methods = record { at = at; earlier = methods_of methods }
+abbrev pub methods_before : ℕ → List Unfinished → MethodsBefore
+methods_before at methods = record { at = at; earlier = methods_of methods }
 
 -- a method more, and the place after it; or the fault
 abbrev pub GivesNext : Result ℕ (ReadError ClassFault) → List Unfinished → List Unfinished → Result (Unfinished × MethodsBefore) ClassFault → Type 0
-GivesNext (Ok after) old new read = (m : Unfinished) × (new ≡ old ++ m ∷ []) × (read ≡ Ok (m, begun after new))
+GivesNext (Ok after) old new read = (m : Unfinished) × (new ≡ old ++ m ∷ []) × (read ≡ Ok (m, methods_before after new))
 GivesNext (Err e) old new read = Fails e read

@@ -5,11 +5,11 @@ use Rattle.fcg_classfile.specs.declared.fault.ClassRule.TheVariants.{Bootstrap}
 use Rattle.fcg_classfile.specs.ClassFile.{BootstrapMethod}
 use Rattle.fcg_classfile.specs.Breaks.Attributes.{one_at}
 use Rattle.fcg_classfile.specs.Breaks.Bootstrap.{rows_at}
-use Rattle.fcg_reader.specs.Internal.Class.{rows_said, rows_seen, class_begun}
+use Rattle.fcg_reader.specs.Internal.Class.{rows_said, rows_seen, rows_before}
 use Rattle.fcg_reader.proofs.class.read_attribute_rows.Given as goal
 
 abbrev pub invariant-loop : goal.invariant-loop
 invariant-loop l =
     ((read : Option (ℕ × List BootstrapMethod)) × (rows_said read ≡ rows_seen l.found)
-    × (ended (rows (one_at (codes "BootstrapMethods") Bootstrap rows_at l.pool) (l.attributes - l.counter) l.counter (class_begun l.place read)) ≡ ended (rows (one_at (codes "BootstrapMethods") Bootstrap rows_at l.pool) l.attributes 0 (class_begun l.at None))))
+    × (ended (rows (one_at (codes "BootstrapMethods") Bootstrap rows_at l.pool) (l.attributes - l.counter) l.counter (rows_before l.place read)) ≡ ended (rows (one_at (codes "BootstrapMethods") Bootstrap rows_at l.pool) l.attributes 0 (rows_before l.at None))))
     × (l.place ≤ length l.pool.bytes)

@@ -1,4 +1,4 @@
-use Rattle.std.proofs.Common.{refl, sym, ◌+◌, ◌<◌, ◌^◌, ◌∙◌, arith}
+use Rattle.std.proofs.Common.{refl, sym, ◌∙◌, arith}
 use Rattle.std.proofs.lemmas.Result.{err_from_is_err_and}
 use Rattle.std.proofs.lemmas.List.{length-append}
 use Rattle.fcg_reader.proofs.CodeLemmas.{found_begin, found_go_on, found_pass, found_counted, next_fails, found_fails, found_done}

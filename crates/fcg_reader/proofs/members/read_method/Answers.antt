@@ -1,7 +1,7 @@
 use Rattle.std.proofs.Common.{◌≡◌, ◌∷◌, [], ◌++◌, sym, ap, ◌∙◌}
 use Rattle.std.proofs.lemmas.Result.{err_from_is_err_and}
 use Rattle.fcg_classfile.specs.Breaks.Members.{Unfinished, unfinished}
-use Rattle.fcg_reader.specs.Internal.Members.{declared_of, code_begun}
+use Rattle.fcg_reader.specs.Internal.Members.{declared_of, code_before}
 use Rattle.fcg_reader.proofs.MethodLemmas.{method_at-doubled, method_at-broken, method_at-read}
 use Rattle.fcg_reader.proofs.members.read_method.Goals as goal
 
@@ -27,4 +27,4 @@ returns-clause-value c =
     let m = unfinished d c.in_ok-after.code in
     let pushed : c.push.new.self.methods ≡ c.args.table.now.methods ++ m ∷ [] =
     (rw c.in_ok-doubled.ensures.same at c.in_ok-push.ensures.ok) ∙ ap (λ (x : Unfinished). c.args.table.now.methods ++ x ∷ []) c.in_ok-method.ensures.ok in
-    λ k. (m, pushed, rw pushed (method_at-read c.args.table.now.pool k c.args.at c.args.table.now.methods d (code_begun c.in_ok-after.after c.in_ok-after.code) declared (sym c.in_ok-doubled.ensures.value ∙ c.if-doubled.false) given))
+    λ k. (m, pushed, rw pushed (method_at-read c.args.table.now.pool k c.args.at c.args.table.now.methods d (code_before c.in_ok-after.after c.in_ok-after.code) declared (sym c.in_ok-doubled.ensures.value ∙ c.if-doubled.false) given))

@@ -128,7 +128,7 @@ fn fields(rt: HostRuntime) -> Result<(), Fail> {
     Ok(())
 }
 
-/// A byte of a file by its place, what it is changed to, and the fault: its rule, its place and the index of the pool.
+// A byte of a file by its place, what it is changed to, and the fault: its rule, its place and the index of the pool.
 type Change = (usize, u8, ClassRule, u32, u16);
 
 // Of the methods.

@@ -30,8 +30,8 @@ fn begun_by(form: u8) -> Result<(u32, u16), CodeRule> {
         b'3' => Ok((3, 258)),
         b'4' => Ok((4, 258)),
         b'5' => Ok((5, 258)),
-        b't' => Ok((20, 0)),
-        b'l' => Ok((12, 0)),
+        b't' => Ok((20, 258)),
+        b'l' => Ok((12, 258)),
         b'w' => Err(CodeRule::BadWide),
         _ => Err(CodeRule::BadOpcode),
     }
@@ -56,6 +56,32 @@ fn knows_each_opcode(rt: HostRuntime) {
     for opcode in 0..=255u8 {
         let form = OPCODES[usize::from(opcode / 16)][usize::from(opcode % 16)];
         assert!(rt; is_known(opcode, form), "at {opcode}");
+    }
+}
+
+// An instruction at a place of a code, and its operand: the two bytes after its opcode.
+const OPERANDS: &[(&[u8], u16, u16)] = &[
+    // a wide before iload and before iinc: the opcode that is made wide, and the first byte of its index
+    (&[196, 21, 1, 2], 0, 0x1501),
+    (&[196, 132, 1, 2, 3, 4], 0, 0x8401),
+    // a tableswitch and a lookupswitch without padding: the first bytes of the default
+    (
+        &[0, 0, 0, 170, 1, 2, 3, 4, 0, 0, 0, 0, 0, 0, 0, 0, 0, 0, 0, 0],
+        3,
+        258,
+    ),
+    (&[0, 0, 0, 171, 1, 2, 3, 4, 0, 0, 0, 0], 3, 258),
+];
+
+fn has_operand(code: &[u8], pc: u16, operand: u16) -> bool {
+    usize::from(pc) < code.len()
+        && next_instruction(code, pc).is_ok_and(|instruction| instruction.operand == operand)
+}
+
+#[test]
+fn tells_operands(rt: HostRuntime) {
+    for (code, pc, operand) in OPERANDS {
+        assert!(rt; has_operand(code, *pc, *operand), "{code:?}");
     }
 }
 

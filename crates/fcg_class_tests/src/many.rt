@@ -11,17 +11,24 @@ use std::test::Fail;
 // The magic and the version, and constants. 1 is `T`, 2 its Class, 3 `m`, 4 `()V`, 5 both, 6 the Methodref of these; 7 is an
 // empty text, 8 the NameAndType of it and `()V`, 9 the Methodref of that. 10 and 11 are MethodHandles of the kind
 // REF_invokeStatic of 6 and 9; 12 to 14 InvokeDynamics of the rows 0 to 2; 15 and 16 the names of attributes.
-const HEAD: [u8; 99] =
-    *b"\xca\xfe\xba\xbe\0\0\0\x41\0\x41\x01\0\x01T\x07\0\x01\x01\0\x01m\x01\0\x03()V\x0c\0\x03\0\x04\x0a\0\x02\0\x05\x01\0\0\x0c\0\x07\0\x04\x0a\0\x02\0\x08\x0f\x06\0\x06\x0f\x06\0\x09\x12\0\0\0\x05\x12\0\x01\0\x05\x12\0\x02\0\x05\x01\0\x04Code\x01\0\x10BootstrapMethods";
+const HEAD: [u8; 99] = [
+    0xca, 0xfe, 0xba, 0xbe, 0x00, 0x00, 0x00, 0x41, 0x00, 0x42, 0x01, 0x00, 0x01, 0x54, 0x07, 0x00,
+    0x01, 0x01, 0x00, 0x01, 0x6d, 0x01, 0x00, 0x03, 0x28, 0x29, 0x56, 0x0c, 0x00, 0x03, 0x00, 0x04,
+    0x0a, 0x00, 0x02, 0x00, 0x05, 0x01, 0x00, 0x00, 0x0c, 0x00, 0x07, 0x00, 0x04, 0x0a, 0x00, 0x02,
+    0x00, 0x08, 0x0f, 0x06, 0x00, 0x06, 0x0f, 0x06, 0x00, 0x09, 0x12, 0x00, 0x00, 0x00, 0x05, 0x12,
+    0x00, 0x01, 0x00, 0x05, 0x12, 0x00, 0x02, 0x00, 0x05, 0x01, 0x00, 0x04, 0x43, 0x6f, 0x64, 0x65,
+    0x01, 0x00, 0x10, 0x42, 0x6f, 0x6f, 0x74, 0x73, 0x74, 0x72, 0x61, 0x70, 0x4d, 0x65, 0x74, 0x68,
+    0x6f, 0x64, 0x73,
+];
 
-// 46 names follow, from 17 on, and at 64 a Methodref of `m` with the descriptor `m`; then the flags of a class, its name
-// `T`, no superclass, interfaces and fields, and the count of its methods.
+// 46 names follow, from 17 on, at 64 a Methodref of `m` with the descriptor `m`, and at 65 a MethodHandle of that; then the
+// flags of a class, its name `T`, no superclass, interfaces and fields, and the count of its methods.
 fn head(alloc: Global, methods: u8) -> Result<Vec<u8>, Fail> {
     let mut bytes = HEAD.to_vec(alloc)?;
     for name in 0x30..0x5eu8 {
         bytes.extend_from_slice(&[1, 0, 1, name])?;
     }
-    bytes.extend_from_slice(&[12, 0, 3, 0, 3, 10, 0, 2, 0, 63])?;
+    bytes.extend_from_slice(&[12, 0, 3, 0, 3, 10, 0, 2, 0, 63, 15, 6, 0, 64])?;
     bytes.extend_from_slice(&[0, 0x21, 0, 2, 0, 0, 0, 0, 0, 0, 0, methods])?;
     Ok(bytes)
 }
@@ -65,9 +72,8 @@ fn many_calls(alloc: Global, last: &[u8]) -> Result<Vec<u8>, Fail> {
 
 // What follows the calls, and the rule that its first instruction breaks.
 const LASTS: &[(&[u8], ClassRule)] = &[
-    // a call of an empty name; of a bad descriptor; a call, and an opcode that nothing has
+    // a call of an empty name; a call, and an opcode that nothing has
     (&[184, 0, 9], ClassRule::EmptyName),
-    (&[184, 0, 64], ClassRule::Descriptor),
     (&[184, 0, 6, 202], ClassRule::ManySites),
 ];
 
@@ -80,7 +86,7 @@ fn breaks_at_last(alloc: Global, last: &[u8], rule: ClassRule) -> Result<bool, F
 }
 
 #[test]
-fn many_calls_break(rt: HostRuntime) -> Result<(), Fail> {
+fn order_of_faults_of_many_calls(rt: HostRuntime) -> Result<(), Fail> {
     for (last, rule) in LASTS {
         assert!(rt; breaks_at_last(rt.alloc(), last, *rule)?, "{rule:?}");
     }
@@ -108,7 +114,7 @@ fn dynamic_calls(alloc: Global, last: &[u8]) -> Result<Vec<u8>, Fail> {
     Ok(code)
 }
 
-// A class whose code has these calls, and something more. The code begins at 327. Of its bootstrap methods the first has
+// A class whose code has these calls, and something more. The code begins at 331. Of its bootstrap methods the first has
 // 65,536 handles, the second 16,960, and the third this one.
 fn many_handles(alloc: Global, last: &[u8], third: u8) -> Result<Vec<u8>, Fail> {
     let mut bytes = head(alloc, 1)?;
@@ -123,16 +129,18 @@ fn many_handles(alloc: Global, last: &[u8], third: u8) -> Result<Vec<u8>, Fail> 
     Ok(bytes)
 }
 
-// What follows these calls, and the third row's handle; and the fault: its place and its rule.
+// What follows these calls, and the third row's handle; and the fault: its place and its rule. In each a byte stands
+// after the class file.
 const HANDLES: &[(&[u8], u8, u32, ClassRule)] = &[
-    // a call of the third row, whose handle names an empty name; one of a good one, with a byte after the class file
-    (&[186, 0, 14, 0, 0, 177], 11, 407, ClassRule::EmptyName),
-    (&[186, 0, 14, 0, 0, 177], 10, 407, ClassRule::ManySites),
-    // the count begins with the sites of all instructions: with one more the last site of the sixteenth call is too many
+    // a call of the third row, whose handle names an empty name, a bad descriptor, or nothing broken
+    (&[186, 0, 14, 0, 0, 177], 11, 411, ClassRule::EmptyName),
+    (&[186, 0, 14, 0, 0, 177], 65, 411, ClassRule::Descriptor),
+    (&[186, 0, 14, 0, 0, 177], 10, 411, ClassRule::ManySites),
+    // the count begins with the sites of all instructions: with one of these the last of the sixteenth call is too many
     (
         &[186, 0, 14, 0, 0, 184, 0, 6, 177],
         11,
-        402,
+        406,
         ClassRule::ManySites,
     ),
 ];
@@ -145,7 +153,7 @@ fn breaks_at(alloc: Global, row: &(&[u8], u8, u32, ClassRule)) -> Result<bool, F
 }
 
 #[test]
-fn many_handles_break(rt: HostRuntime) -> Result<(), Fail> {
+fn order_of_faults_of_many_handles(rt: HostRuntime) -> Result<(), Fail> {
     for row in HANDLES {
         assert!(rt; breaks_at(rt.alloc(), row)?, "{row:?}");
     }
@@ -197,8 +205,9 @@ fn many_classes(alloc: Global, fifth: &[u8]) -> Result<(Vec<u8>, usize), Fail> {
     Ok((bytes, at))
 }
 
+// A path of no byte stands behind the class file that is too much.
 #[test]
-fn many_classes_break(rt: HostRuntime) -> Result<(), Fail> {
+fn order_of_faults_of_many_classes(rt: HostRuntime) -> Result<(), Fail> {
     let (bytes, at) = many_classes(rt.alloc(), &CALL)?;
     assert!(rt;
         is_refused(
@@ -212,9 +221,9 @@ fn many_classes_break(rt: HostRuntime) -> Result<(), Fail> {
     Ok(())
 }
 
-// A class file that is too much has a byte after its end.
+// The class file that is too much has a byte after its end.
 #[test]
-fn many_classes_and_a_broken_one(rt: HostRuntime) -> Result<(), Fail> {
+fn order_of_faults_of_many_classes_and_a_broken_one(rt: HostRuntime) -> Result<(), Fail> {
     let fifth = [CALL.as_slice(), &[0]].concat(rt.alloc())?;
     let (bytes, _) = many_classes(rt.alloc(), &fifth)?;
     let want = BundleFault::Class {

@@ -1,5 +1,5 @@
 //! Bytes with two faults each: the one that is told is the first in the order of the checks. The rows follow the pages on
-//! class files and on bundles, sentence by sentence; in `many` stand those of sites beyond the limits.
+//! class files and on bundles, sentence by sentence; those of more sites than may be stand in `many`.
 
 use crate::bundle::{fault_of, is_refused};
 use crate::samples::{changed, has_fault, view_of};

@@ -90,4 +90,4 @@ module _ (rows : List (List ℕ)) (order : List ℕ) (old : List Bool) (h : IsOr
 
 -- what a row has is a node
 pub row_below : (rows : List (List ℕ)) → IsWithin rows → (x k d : ℕ) → k < length (row rows x) → get_or (row rows x) k d < length rows
-row_below rows w x k d l = w x (get_or (row rows x) k d) (k, l, get_or_default (row rows x) k (get_or (row rows x) k d) d l)
+row_below rows w x k d l = w.each x (get_or (row rows x) k d) (k, l, get_or_default (row rows x) k (get_or (row rows x) k d) d l)

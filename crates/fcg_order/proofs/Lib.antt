@@ -10,3 +10,4 @@ pub mod WorkLaws
 pub mod StepLaws
 pub mod SearchLaws
 pub mod FillLaws
+pub mod WithinLaws

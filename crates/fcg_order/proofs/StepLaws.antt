@@ -32,7 +32,7 @@ module _ (rows : List (List ℕ)) (s : SearchState) (f : Frame) (h : IsSearchSta
       w = get_or (row rows (node_at s f.place)) f.next 0
 
       small : w < length rows
-      small = within (node_at s f.place) (get_or (row rows (node_at s f.place)) f.next 0) (leads rows (with_top f s) h f s.frames refl left)
+      small = within.each (node_at s f.place) (get_or (row rows (node_at s f.place)) f.next 0) (leads rows (with_top f s) h f s.frames refl left)
 
       few : f.next < link_count rows
       few = let l = row_small rows (node_at s f.place) in omega arith
@@ -191,7 +191,7 @@ stack_below rows s h k d l = elim (cases_lt (node_at s k) (length s.marks)) [
 
 pub target_below : (rows : List (List ℕ)) (s : SearchState) (f : Frame) → IsSearchState rows (with_top f s) → IsWithin rows → f.next < length (row rows (node_at s f.place))
     → get_or (row rows (node_at s f.place)) f.next 0 < length rows
-target_below rows s f h within left = within (node_at s f.place) (get_or (row rows (node_at s f.place)) f.next 0) (leads rows (with_top f s) h f s.frames refl left)
+target_below rows s f h within left = within.each (node_at s f.place) (get_or (row rows (node_at s f.place)) f.next 0) (leads rows (with_top f s) h f s.frames refl left)
 
 -- the node of a frame, and its row, as the code reads them
 pub row_read : (rows : List (List ℕ)) (s : SearchState) (f : Frame) → IsSearchState rows (with_top f s) → (node : ℕ) (r : List ℕ) → node ≡ get_or s.stack f.place node → r ≡ row rows node → r ≡ row rows (node_at s f.place)

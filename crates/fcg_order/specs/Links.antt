@@ -11,8 +11,8 @@ abbrev pub HasLink : List (List ℕ) → ℕ → ℕ → Type 0
 HasLink rows x y = Contains (row rows x) y
 
 -- each link leads to a node
-abbrev pub IsWithin : List (List ℕ) → Type 0
-IsWithin rows = (x y : ℕ) → HasLink rows x y → y < length rows
+pub record IsWithin (rows : List (List ℕ)) : Type 0 where
+  pub each : (x y : ℕ) → HasLink rows x y → y < length rows
 
 -- one or more links lead from x to y
 pub data LinkWalk (rows : List (List ℕ)) : ℕ → ℕ → Type 0 where

@@ -1,6 +1,6 @@
 //! Links between numbered nodes.
-ghost use Rattle.std.specs.Prelude.{◌≡◌, ◌<◌, ◌++◌, ◌∷◌, ◌↔◌, [], length, IfOk, OnOk, OnErr, IsTrue};
-ghost use Rattle.fcg_order.specs.Links.{row};
+ghost use Rattle.std.specs.Prelude.{◌≡◌, ◌<◌, ◌++◌, ◌∷◌, ◌↔◌, [], length, All, IfOk, OnOk, OnErr, IsTrue};
+ghost use Rattle.fcg_order.specs.Links.{row, IsWithin};
 
 use std::alloc::{AllocError, Global};
 use std::marker::Model;
@@ -23,6 +23,13 @@ impl Model for Links {
     ghost view = { λ l. rows_of l.starts.items l.targets.items };
 
     ghost invariant = { λ l. AreStarts l.starts.items l.targets.items };
+}
+
+// Whether each of the numbers is below a count.
+fn are_below(numbers: &[u32], count: usize) -> bool
+    ensures { IsTrue result ↔ All (λ x. x < count) numbers.now }
+{
+    numbers.iter().all(|number| (*number as usize) < count)
 }
 
 impl Links {
@@ -69,5 +76,18 @@ impl Links {
         let (front, _) = self.targets.split_at(self.starts[node + 1]);
         let (_, row) = front.split_at(self.starts[node]);
         row
+    }
+
+    /// Whether each link leads to a node. It goes over all links.
+    pub fn is_within(&self) -> bool
+        ensures { IsTrue result ↔ IsWithin self.now }
+    {
+        let count = self.len();
+        for node in 0..count {
+            if !are_below(self.row(node), count) {
+                return false;
+            }
+        }
+        true
     }
 }

@@ -8,7 +8,7 @@ use Rattle.fcg_order.specs.declared.search.Mark.TheVariants.{Unvisited, OnStack,
 use Rattle.fcg_order.specs.declared.search.Frame.{Frame}
 use Rattle.fcg_order.specs.Links.{row, HasLink, LinkWalk, first_link}
 use Rattle.fcg_order.specs.Internal.Search.{SearchState, mark, node_at, is_marked, IsVisitedFrom, AreFrames, IsSearchState, set_all, after_pop, AreMarksAfterPop}
-use Rattle.fcg_order.proofs.WalkLaws.{joined, head, kept}
+use Rattle.fcg_order.proofs.WalkLaws.{joined, first_of_walk, kept_along}
 use Rattle.fcg_order.proofs.FrameLaws.{same_place, SameStack, KeepsVisitedFrom, frames_kept}
 use Rattle.fcg_order.proofs.SetAllLaws.{length-set_all, set_all_in, set_all_out}
 
@@ -56,9 +56,9 @@ module _ (rows : List (List ℕ)) (s : SearchState) (h : IsSearchState rows s) (
             h.self (node_at s f.place) off (subst (HasLink rows (node_at s f.place)) (sym (ap (node_at s) q ∙ p.1)) l))
       ]) in
       let clash : mark s (node_at s f.place) ≡ Finished → ⊥ = (λ d. let e : OnStack f.place ≡ Finished = sym opened ∙ d in cc) in
-      elim (head w) [
+      elim (first_of_walk w) [
         | inl l ↦ clash (first (node_at s f.place) l)
-        | inr r ↦ clash (kept (λ z. mark s z ≡ Finished) h.closed (first r.0 r.1) r.2)
+        | inr r ↦ clash (kept_along (λ z. mark s z ≡ Finished) h.closed (first r.0 r.1) r.2)
       ]
 
   module _ (circular : List Bool) (c : AreMarksAfterPop rows s f.place circular) where

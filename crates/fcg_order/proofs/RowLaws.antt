@@ -4,16 +4,16 @@ use Rattle.std.proofs.lemmas.List.{take_all, drop_at, take-append-le, length-app
 use Rattle.fcg_order.specs.Links.{row}
 use Rattle.fcg_order.specs.Internal.Rows.{rows_of, AreStarts}
 
-long : (ss ts : List ℕ) → AreStarts ss ts → suc (length (rows_of ss ts)) ≡ length ss
-long [] ts h = absurd h
-long (a ∷ []) ts h = refl
-long (a ∷ b ∷ ss) ts h = ap suc (long (b ∷ ss) ts h.1)
+length-rows_of : (ss ts : List ℕ) → AreStarts ss ts → suc (length (rows_of ss ts)) ≡ length ss
+length-rows_of [] ts h = absurd h
+length-rows_of (a ∷ []) ts h = refl
+length-rows_of (a ∷ b ∷ ss) ts h = ap suc (length-rows_of (b ∷ ss) ts h.1)
 
-is : (ss ts : List ℕ) (n d e : ℕ) → suc n < length ss → get_or (rows_of ss ts) n [] ≡ drop (get_or ss n d) (take (get_or ss (suc n) e) ts)
-is [] ts n d e l = absurd (omega arith)
-is (a ∷ []) ts n d e l = absurd (omega arith)
-is (a ∷ b ∷ ss) ts zero d e l = refl
-is (a ∷ b ∷ ss) ts (suc n) d e l = is (b ∷ ss) ts n d e (omega arith)
+row_at : (ss ts : List ℕ) (n d e : ℕ) → suc n < length ss → get_or (rows_of ss ts) n [] ≡ drop (get_or ss n d) (take (get_or ss (suc n) e) ts)
+row_at [] ts n d e l = absurd (omega arith)
+row_at (a ∷ []) ts n d e l = absurd (omega arith)
+row_at (a ∷ b ∷ ss) ts zero d e l = refl
+row_at (a ∷ b ∷ ss) ts (suc n) d e l = row_at (b ∷ ss) ts n d e (omega arith)
 
 pub start_below : (ss ts : List ℕ) (n d : ℕ) → AreStarts ss ts → n < length ss → get_or ss n d ≤ length ts
 start_below [] ts n d h l = absurd h
@@ -37,7 +37,7 @@ pub record IsRow (rows : List (List ℕ)) (ss ts : List ℕ) (n d e : ℕ) : Typ
 
 pub row_there : (rows : List (List ℕ)) (ss ts : List ℕ) (n d e : ℕ) → rows_of ss ts ≡ rows → AreStarts ss ts → n < length rows → IsRow rows ss ts n d e
 row_there rows ss ts n d e q h l =
-    let m : suc (length rows) ≡ length ss = ap (λ rs. suc (length rs)) (sym q) ∙ long ss ts h in
+    let m : suc (length rows) ≡ length ss = ap (λ rs. suc (length rs)) (sym q) ∙ length-rows_of ss ts h in
     let s : n + 1 ≡ suc n = omega arith in
     let b : n + 1 < length ss = omega arith in
     let c : suc n < length ss = omega arith in
@@ -45,11 +45,11 @@ row_there rows ss ts n d e q h l =
       inside = b;
       rise = subst (λ k. get_or ss n d ≤ get_or ss k e) (sym s) (rises ss ts n d e h c);
       below = start_below ss ts (n + 1) e h b;
-      row_is = ap (λ rs. row rs n) (sym q) ∙ is ss ts n d e c ∙ ap (λ k. drop (get_or ss n d) (take (get_or ss k e) ts)) (sym s);
+      row_is = ap (λ rs. row rs n) (sym q) ∙ row_at ss ts n d e c ∙ ap (λ k. drop (get_or ss n d) (take (get_or ss k e) ts)) (sym s);
     }
 
-pub rows_long : (rows : List (List ℕ)) (ss ts : List ℕ) → rows_of ss ts ≡ rows → AreStarts ss ts → length rows + 1 ≡ length ss
-rows_long rows ss ts q h = let m : suc (length rows) ≡ length ss = ap (λ rs. suc (length rs)) (sym q) ∙ long ss ts h in omega arith
+pub length-rows : (rows : List (List ℕ)) (ss ts : List ℕ) → rows_of ss ts ≡ rows → AreStarts ss ts → length rows + 1 ≡ length ss
+length-rows rows ss ts q h = let m : suc (length rows) ≡ length ss = ap (λ rs. suc (length rs)) (sym q) ∙ length-rows_of ss ts h in omega arith
 
 -- ---- one more row
 

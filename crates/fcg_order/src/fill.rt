@@ -29,11 +29,11 @@ fn has_or_meets_mark(links: &Links, marks: &[bool], node: u32) -> bool
     marks[node as usize] || any_marked(marks, links.row(node as usize))
 }
 
-/// Hands marks on against the links: a node that links to one with a mark gets one too, and so on upward. `marks` has a
-/// mark for each node by its number, and `order` is what `find_order` answers.
+/// Hands marks on against the links: a node that links to one with a mark gets one too, and so on. `marks` has a mark for
+/// each node by its number, and `order` is what `find_order` answers.
 ///
-/// No mark is taken away. A node on a circle may miss one that a node after it in the order has; nothing is promised of
-/// such nodes. It goes over each node and each link once, and takes no memory.
+/// One pass can't follow links round a circle, so the nodes on circles may stay without a mark; all others get theirs. It
+/// goes over each node and each link once, and takes no memory.
 pub fn fill_upward(links: &Links, order: &[u32], marks: &mut [bool])
     requires within { IsWithin links.now }
     requires long { length marks.old ≡ length links.now }

@@ -14,7 +14,7 @@ pub struct Order {
     /// these can be worked out in one pass from the front.
     pub nodes: Vec<u32>,
     /// Of each node, by its number, whether it lies on a circle: whether one or more links lead from it back to itself.
-    /// One that leads to a circle, is led to from one, or stands between two, lies on none.
+    /// It isn't enough that it leads to a circle and is led to from another.
     pub circular: Vec<bool>,
 }
 

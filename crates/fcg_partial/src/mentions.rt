@@ -10,12 +10,17 @@ use std::collections::BTreeMap;
 use std::hash::{DefaultHasher, Hash, Hasher};
 use std::marker::Model;
 
-// The texts of names. A name is looked for first by its place in the block of its class file, then by a hash of its bytes,
-// and is compared once with what is found. So the bytes of a text are hashed once in each class; and a text stands twice
-// only where another one has its hash, so that the time has a bound also where a stranger chooses the texts.
+// How many numbers are kept in a table by the places of their texts.
+const MOST_RECENT: usize = 4096;
+
+// The texts of names. A name is looked for by its place in the block of its class file: in a small table, where another
+// place may have taken its row, and then in a map. After that it is looked for by a hash of its bytes. It is compared
+// with what is found. So the bytes of a text are hashed once in each class; and a text stands twice only where another
+// one has its hash, so that the time has a bound also where a stranger chooses the texts.
 #[derive(Drop)]
 struct Texts {
     items: Vec<Name>,
+    recent: Vec<u32>,
     by_place: BTreeMap<(u32, u32), u32>,
     by_hash: BTreeMap<u64, u32>,
 }
@@ -26,7 +31,23 @@ fn hash_of(name: &Name) -> u64 {
     hasher.finish()
 }
 
+// The row of a name in the table.
+fn row_of(name: &Name) -> usize {
+    (name.place().0 as usize / 4) % MOST_RECENT
+}
+
 impl Texts {
+    fn find_recent(&self, name: &Name) -> Option<u32>
+        ensures { IfSome result (λ n. IsTextOf self.now.items.items n name.now) }
+    {
+        let number = *self.recent.get(row_of(name))?;
+        if is_text(&self.items, number, name) {
+            Some(number)
+        } else {
+            None
+        }
+    }
+
     fn find_by_place(&self, name: &Name) -> Option<u32>
         ensures { IfSome result (λ n. IsTextOf self.now.items.items n name.now) }
     {
@@ -69,6 +90,21 @@ impl Texts {
         ensures ok { IfOk result (λ n. Extends self.old.items.items self.new.items.items name.now n) }
         ensures err { OnErr result (self.new.items.items ≡ self.old.items.items) }
     {
+        if let Some(number) = self.find_recent(name) {
+            return Ok(number);
+        }
+        let number = self.search(name)?;
+        if let Some(row) = self.recent.get_mut(row_of(name)) {
+            *row = number;
+        }
+        Ok(number)
+    }
+
+    // The same without the table.
+    fn search(&mut self, name: &Name) -> Result<u32, AllocError>
+        ensures ok { IfOk result (λ n. Extends self.old.items.items self.new.items.items name.now n) }
+        ensures err { OnErr result (self.new.items.items ≡ self.old.items.items) }
+    {
         if let Some(number) = self.find_by_place(name) {
             return Ok(number);
         }
@@ -103,17 +139,19 @@ impl Model for Mentions {
 }
 
 impl Mentions {
-    pub(crate) fn new(alloc: Global) -> Mentions
-        ensures { result ≡ [] }
+    pub(crate) fn new(alloc: Global) -> Result<Mentions, AllocError>
+        ensures { IfOk result (λ names. names ≡ []) }
     {
-        Mentions {
+        let recent = vec![in alloc; 0; MOST_RECENT]?;
+        Ok(Mentions {
             texts: Texts {
                 items: Vec::new(alloc),
+                recent,
                 by_place: BTreeMap::new(alloc),
                 by_hash: BTreeMap::new(alloc),
             },
             numbers: Vec::new(alloc),
-        }
+        })
     }
 
     // Forgets where the names of the last class stand.

@@ -100,7 +100,7 @@ fn push_names(names: &mut Mentions, views: &[View]) -> Result<(), AllocError>
 pub(crate) fn collect_names(alloc: Global, views: &[View]) -> Result<Mentions, AllocError>
     ensures { IfOk result (λ names. names ≡ collected views.now) }
 {
-    let mut names = Mentions::new(alloc)?;
+    let mut names = Mentions::new(alloc, views.len())?;
     push_names(&mut names, views)?;
     Ok(names)
 }

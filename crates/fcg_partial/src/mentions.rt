@@ -10,19 +10,25 @@ use std::collections::BTreeMap;
 use std::hash::{DefaultHasher, Hash, Hasher};
 use std::marker::Model;
 
-// How many numbers are kept in a table by the places of their texts.
-const MOST_RECENT: usize = 4096;
+// How many rows the table by places has.
+const PLACES: usize = 4096;
+
+// How many rows the table by hashes has for each class, and at most.
+const HASHES_OF_A_CLASS: usize = 64;
+
+const MOST_HASHES: usize = 524_288;
 
 // The texts of names. A name is looked for by its place in the block of its class file: in a small table, where another
-// place may have taken its row, and then in a map. After that it is looked for by a hash of its bytes. It is compared
-// with what is found. So the bytes of a text are hashed once in each class; and a text stands twice only where another
-// one has its hash, so that the time has a bound also where a stranger chooses the texts.
+// place may have taken its row, and then in a map. After that it is looked for in a table by a hash of its bytes, where
+// another text may have taken its row. It is compared with what is found. So the bytes of a text are hashed once in each
+// class. A text stands more than once where its row was taken; at worst it stands once for each class that has it, so that
+// the time has a bound also where a stranger chooses the texts.
 #[derive(Drop)]
 struct Texts {
     items: Vec<Name>,
     recent: Vec<u32>,
     by_place: BTreeMap<(u32, u32), u32>,
-    by_hash: BTreeMap<u64, u32>,
+    by_hash: Vec<u32>,
 }
 
 fn hash_of(name: &Name) -> u64 {
@@ -33,7 +39,7 @@ fn hash_of(name: &Name) -> u64 {
 
 // The row of a name in the table.
 fn row_of(name: &Name) -> usize {
-    (name.place().0 as usize / 4) % MOST_RECENT
+    (name.place().0 as usize / 4) % PLACES
 }
 
 impl Texts {
@@ -59,10 +65,15 @@ impl Texts {
         }
     }
 
+    // The row of a hash in its table.
+    fn row_of_hash(&self, hash: u64) -> usize {
+        (hash % (self.by_hash.len() as u64).max(1)) as usize
+    }
+
     fn find_by_hash(&self, name: &Name, hash: u64) -> Option<u32>
         ensures { IfSome result (λ n. IsTextOf self.now.items.items n name.now) }
     {
-        let number = *self.by_hash.get(&hash)?;
+        let number = *self.by_hash.get(self.row_of_hash(hash))?;
         if is_text(&self.items, number, name) {
             Some(number)
         } else {
@@ -80,8 +91,11 @@ impl Texts {
         };
         let copy = name.clone()?;
         self.by_place.insert(name.place(), number)?;
-        self.by_hash.insert(hash, number)?;
         self.items.push(copy)?;
+        let row = self.row_of_hash(hash);
+        if let Some(last) = self.by_hash.get_mut(row) {
+            *last = number;
+        }
         Ok(number)
     }
 
@@ -139,16 +153,19 @@ impl Model for Mentions {
 }
 
 impl Mentions {
-    pub(crate) fn new(alloc: Global) -> Result<Mentions, AllocError>
+    // Without a name, for names of so many classes.
+    pub(crate) fn new(alloc: Global, classes: usize) -> Result<Mentions, AllocError>
         ensures { IfOk result (λ names. names ≡ []) }
     {
-        let recent = vec![in alloc; 0; MOST_RECENT]?;
+        let recent = vec![in alloc; 0; PLACES]?;
+        let rows = classes.saturating_mul(HASHES_OF_A_CLASS).min(MOST_HASHES);
+        let by_hash = vec![in alloc; 0; rows]?;
         Ok(Mentions {
             texts: Texts {
                 items: Vec::new(alloc),
                 recent,
                 by_place: BTreeMap::new(alloc),
-                by_hash: BTreeMap::new(alloc),
+                by_hash,
             },
             numbers: Vec::new(alloc),
         })

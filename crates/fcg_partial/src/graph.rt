@@ -68,7 +68,7 @@ fn write_views(
     ensures graph { IfOk result (λ out. IsGraph (graph_of views.now)) }
 {
     let refs = make_ref_table(alloc, names, views, &mut hints)?;
-    hints.restart();
+    hints.begin_types(alloc, refs.as_slice())?;
     write_graph(alloc, names, refs.as_slice(), views, &mut hints)
 }
 

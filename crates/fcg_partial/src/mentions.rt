@@ -187,6 +187,11 @@ impl Mentions {
         Ok(())
     }
 
+    // The number of a name's text, unless another text took its row.
+    pub(crate) fn find(&self, name: &Name) -> Option<u32> {
+        self.texts.find_by_hash(name, hash_of(name))
+    }
+
     pub(crate) fn texts(&self) -> &[Name] {
         self.texts.items.as_slice()
     }

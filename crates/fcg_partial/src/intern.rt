@@ -295,7 +295,7 @@ fn collect_rows(
     requires few { length names.now < 2 ^ 32 }
     ensures { IfOk result (λ rows. rows.items ≡ flat_map (view_rows names.now) views.now) }
 {
-    let mut rows = Vec::new(alloc);
+    let mut rows = Vec::with_capacity(alloc, hints.numbers.len() / 3)?;
     for view in views {
         hints.skip(count_own_names(view));
         push_method_rows(&mut rows, names, view.methods.as_slice(), hints)?;

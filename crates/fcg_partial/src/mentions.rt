@@ -133,7 +133,7 @@ impl Texts {
     }
 }
 
-/// The names that were collected, each by the number of a text, in their order.
+// The names that were collected, each by the number of a text, in their order.
 #[derive(Drop)]
 pub(crate) struct Mentions {
     texts: Texts,

@@ -81,7 +81,7 @@ impl Texts {
         }
     }
 
-    // Adds a name with its hash. The number of its text is at most the last one, of which no name is the text.
+    // Adds a text with the hash of its bytes. There is no memory for more texts than numbers of four bytes.
     fn add(&mut self, name: &Name, hash: u64) -> Result<u32, AllocError>
         ensures ok { IfOk result (λ n. Extends self.old.items.items self.new.items.items name.now n) }
         ensures err { OnErr result (self.new.items.items ≡ self.old.items.items) }

@@ -12,8 +12,8 @@ use Rattle.fcg_partial.specs.declared.index.Index.{Index}
 use Rattle.fcg_partial.specs.Fault.{u4_at}
 use Rattle.fcg_partial.specs.Graph.{Graph, IsGraph, StoredType, StoredField, StoredMethod, StoredSite}
 use Rattle.fcg_partial.specs.Views.{graph_of, text_of}
-use Rattle.fcg_partial.specs.Reading.{Begun, ref_at, refs_at, type_at, method_at, views_in}
-use Rattle.fcg_partial.specs.Internal.RowPlaces.{text_at, HasText, start}
+use Rattle.fcg_partial.specs.Reading.{TablePlace, ref_at, refs_at, type_at, method_at, views_in}
+use Rattle.fcg_partial.specs.Internal.RowPlaces.{text_at, HasText, first_row}
 use Rattle.fcg_partial.specs.Internal.UsedNumbers.{ReadAt, at_place, at_state, firsts_of, methods_of}
 use Rattle.fcg_partial.specs.Internal.Representation.{IsKept}
 use Rattle.fcg_partial.specs.Accessors.{HasType, HasMethod, HasRef}
@@ -125,13 +125,13 @@ module _ (bytes : List ℕ) (index : Index) (kept : IsKept bytes index) (views :
       none a = omega arith
 
   -- ---- references
-  refs_read : (count : ℕ) × (s : Begun) × (u4_at bytes index.refs ≡ Ok count) × (rows (ref_at bytes (length kept.indexed.graph.names)) count 0 (start (index.refs + 4)) ≡ Ok (kept.indexed.graph.refs, s))
+  refs_read : (count : ℕ) × (s : TablePlace) × (u4_at bytes index.refs ≡ Ok count) × (rows (ref_at bytes (length kept.indexed.graph.names)) count 0 (first_row (index.refs + 4)) ≡ Ok (kept.indexed.graph.refs, s))
   unfolding refs_at
   refs_read =
       let g = kept.indexed.graph in
       let y : List (List ℕ) × ℕ = (g.refs, kept.indexed.after_refs) in
       let a = bind_ok (u4_at bytes index.refs) _ y kept.indexed.refs_are in
-      let b = bind_ok (rows (ref_at bytes (length g.names)) a.0 0 (start (index.refs + 4))) _ y a.2 in
+      let b = bind_ok (rows (ref_at bytes (length g.names)) a.0 0 (first_row (index.refs + 4))) _ y a.2 in
       let made : List (List ℕ) × ℕ = (b.0.0, b.0.1.at) in
       let same : b.0.0 ≡ g.refs = ap (λ (z : List (List ℕ) × ℕ). z.0) (ok_is made y b.2) in
       (a.0, b.0.1, a.1, b.1 ∙ ap (λ (l : List (List ℕ)). Ok (l, b.0.1)) same)
@@ -139,7 +139,7 @@ module _ (bytes : List ℕ) (index : Index) (kept : IsKept bytes index) (views :
   pub ref_many : u4_at bytes index.refs ≡ Ok (length (graph_of views).refs)
   ref_many =
       let r = refs_read in
-      let many = rows_many (ref_at bytes (length kept.indexed.graph.names)) r.0 0 (start (index.refs + 4)) (kept.indexed.graph.refs, r.1) r.3 in
+      let many = rows_many (ref_at bytes (length kept.indexed.graph.names)) r.0 0 (first_row (index.refs + 4)) (kept.indexed.graph.refs, r.1) r.3 in
       r.2 ∙ ap (λ (n : ℕ). Ok n) (sym many ∙ ap (λ (x : Graph). length x.refs) (sym graph_is))
 
   pub ref_there : (r : ℕ) (row : List ℕ) → HasRef (graph_of views) r row → IsRefAt bytes (index.refs + 4 + 13 * r) row
@@ -147,7 +147,7 @@ module _ (bytes : List ℕ) (index : Index) (kept : IsKept bytes index) (views :
       let g = kept.indexed.graph in
       let here = subst (λ (x : Graph). HasRef x r row) graph_is h in
       let a = refs_read in
-      let z = nth_row (ref_at bytes (length g.names)) (λ (s : Begun). s.at) 13 (ref_step bytes (length g.names)) a.0 0 (start (index.refs + 4)) (g.refs, a.1) a.3 r row here in
+      let z = nth_row (ref_at bytes (length g.names)) (λ (s : TablePlace). s.at) 13 (ref_step bytes (length g.names)) a.0 0 (first_row (index.refs + 4)) (g.refs, a.1) a.3 r row here in
       record { names = length g.names; number = z.number; state = z.state; next = z.next; at_is = z.at_is; read = z.read_is }
 
   pub refs_small : index.refs < 2 ^ 32

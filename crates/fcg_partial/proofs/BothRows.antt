@@ -5,7 +5,7 @@ use Rattle.std.specs.List.{flat_map, AllZip}
 use Rattle.fcg_grammar.specs.Rows.{rows}
 use Rattle.fcg_grammar.proofs.RowLemmas.{with_front, rows_go_on, rows_end, rows_done}
 use Rattle.fcg_partial.specs.declared.fault.RecordFault.{RecordFault}
-use Rattle.fcg_partial.specs.Internal.UsedNumbers.{marked, Marks, ReadAt}
+use Rattle.fcg_partial.specs.Internal.UsedNumbers.{marked, UsedMarks, ReadAt}
 use Rattle.fcg_partial.proofs.MarkLaws.{length_marked, marked_append}
 use Rattle.fcg_partial.proofs.MarkRows.{flat_push}
 
@@ -30,20 +30,20 @@ module _ {A B : Type 0} (R : A → B → Type 0) where
 
 module _ {X S : Type 0} (uses targets : X → List ℕ) (read : ℕ → S → Result (X × S) RecordFault) (place : S → ℕ) where
   -- so many rows were read
-  pub record BothRows (count : ℕ) (start : S) (old : Marks) (k : ℕ) (s : S) (now : Marks) (places : List ℕ) : Type 0 where
+  pub record BothRows (count : ℕ) (start : S) (old : UsedMarks) (k : ℕ) (s : S) (now : UsedMarks) (places : List ℕ) : Type 0 where
     pub front : List X
     pub so_far : with_front front (rows read (count - k) k s) ≡ rows read count 0 start
     pub names : now.names ≡ marked old.names (flat_map uses front)
     pub refs : now.refs ≡ marked old.refs (flat_map targets front)
     pub placed : AllZip (ReadAt read place) places front
 
-  pub both_names : {count : ℕ} {start : S} {old : Marks} {k : ℕ} {s : S} {now : Marks} {places : List ℕ} → BothRows count start old k s now places → length now.names ≡ length old.names
+  pub both_names : {count : ℕ} {start : S} {old : UsedMarks} {k : ℕ} {s : S} {now : UsedMarks} {places : List ℕ} → BothRows count start old k s now places → length now.names ≡ length old.names
   both_names {count} {start} {old} {k} {s} {now} {places} b = ap length b.names ∙ length_marked old.names (flat_map uses b.front)
 
-  pub both_refs : {count : ℕ} {start : S} {old : Marks} {k : ℕ} {s : S} {now : Marks} {places : List ℕ} → BothRows count start old k s now places → length now.refs ≡ length old.refs
+  pub both_refs : {count : ℕ} {start : S} {old : UsedMarks} {k : ℕ} {s : S} {now : UsedMarks} {places : List ℕ} → BothRows count start old k s now places → length now.refs ≡ length old.refs
   both_refs {count} {start} {old} {k} {s} {now} {places} b = ap length b.refs ∙ length_marked old.refs (flat_map targets b.front)
 
-  unfoldable pub both_begin : (count : ℕ) (start : S) (old : Marks) → BothRows count start old 0 start old []
+  unfoldable pub both_begin : (count : ℕ) (start : S) (old : UsedMarks) → BothRows count start old 0 start old []
   unfolding marked
   both_begin count start old = record { front = []; so_far = (let n : count - 0 ≡ count = omega arith in rw n (whole (rows read count 0 start))); names = refl; refs = refl; placed = tt }
     where
@@ -51,7 +51,7 @@ module _ {X S : Type 0} (uses targets : X → List ℕ) (read : ℕ → S → Re
       whole (Ok x) = refl
       whole (Err f) = refl
 
-  unfoldable pub both_more : (count : ℕ) (start : S) (old : Marks) (k : ℕ) (s : S) (now : Marks) (places : List ℕ) (x : X) (next : S) (new : Marks) → k < count → read k s ≡ Ok (x, next) → new.names ≡ marked now.names (uses x) → new.refs ≡ marked now.refs (targets x)
+  unfoldable pub both_more : (count : ℕ) (start : S) (old : UsedMarks) (k : ℕ) (s : S) (now : UsedMarks) (places : List ℕ) (x : X) (next : S) (new : UsedMarks) → k < count → read k s ≡ Ok (x, next) → new.names ≡ marked now.names (uses x) → new.refs ≡ marked now.refs (targets x)
       → BothRows count start old k s now places → BothRows count start old (k + 1) next new (places ++ place s ∷ [])
   both_more count start old k s now places x next new lt is names refs m = record {
     front = m.front ++ x ∷ [];
@@ -61,8 +61,8 @@ module _ {X S : Type 0} (uses targets : X → List ℕ) (read : ℕ → S → Re
     placed = zip_push (ReadAt read place) places m.front (place s) x m.placed (record { number = k; state = s; next = next; at_is = refl; read_is = is });
   }
 
-  pub both_fail : (count : ℕ) (start : S) (old : Marks) (k : ℕ) (s : S) (now : Marks) (places : List ℕ) (f : RecordFault) → k < count → read k s ≡ Err f → BothRows count start old k s now places → rows read count 0 start ≡ Err f
+  pub both_fail : (count : ℕ) (start : S) (old : UsedMarks) (k : ℕ) (s : S) (now : UsedMarks) (places : List ℕ) (f : RecordFault) → k < count → read k s ≡ Err f → BothRows count start old k s now places → rows read count 0 start ≡ Err f
   both_fail count start old k s now places f lt is m = rows_end read m.front count k s f (rows read count 0 start) lt is m.so_far
 
-  pub both_done : (count : ℕ) (start : S) (old : Marks) (k : ℕ) (s : S) (now : Marks) (places : List ℕ) → count ≤ k → (m : BothRows count start old k s now places) → rows read count 0 start ≡ Ok (m.front, s)
+  pub both_done : (count : ℕ) (start : S) (old : UsedMarks) (k : ℕ) (s : S) (now : UsedMarks) (places : List ℕ) → count ≤ k → (m : BothRows count start old k s now places) → rows read count 0 start ≡ Ok (m.front, s)
   both_done count start old k s now places le m = rows_done read m.front count k s (rows read count 0 start) le m.so_far

@@ -13,8 +13,8 @@ use Rattle.fcg_partial.specs.declared.fault.RecordRule.TheVariants.{Trailing}
 use Rattle.fcg_partial.specs.Fault.{fault, u2_at, u4_at}
 use Rattle.fcg_partial.specs.Graph.{Graph, StoredType, type_uses, type_targets, name_uses, ref_uses_of}
 use Rattle.fcg_partial.specs.Internal.UsedNumbers.{marked, Marked, first_unmarked, refs_read, refs_uses, types_read}
-use Rattle.fcg_partial.specs.Internal.RowPlaces.{start}
-use Rattle.fcg_partial.specs.Reading.{Begun, ref_at, names_at, refs_at, types_at, unused_at, unused_from, name_place, finished, graph_with, graph_at}
+use Rattle.fcg_partial.specs.Internal.RowPlaces.{first_row}
+use Rattle.fcg_partial.specs.Reading.{TablePlace, ref_at, names_at, refs_at, types_at, unused_at, unused_from, name_place, finished, graph_with, graph_at}
 use Rattle.fcg_partial.proofs.MarkLaws.{length_marked, marked_append, marked_is, first_is_unused}
 use Rattle.fcg_partial.proofs.SeenLaws.{seen_ok, seen_err}
 
@@ -56,23 +56,23 @@ module _ (bytes : List ℕ) (names : List (List ℕ)) (at_refs : ℕ)
   unfolding graph_at refs_at
   no_ref_count f e = rw (magic, version, names_is, sym e) refl
 
-  pub refs_fail : (count : ℕ) (f : RecordFault) → Ok count ≡ u4_at bytes at_refs → refs_read bytes (length names) count (start (at_refs + 4)) ≡ Err f → graph_at bytes ≡ Err f
+  pub refs_fail : (count : ℕ) (f : RecordFault) → Ok count ≡ u4_at bytes at_refs → refs_read bytes (length names) count (first_row (at_refs + 4)) ≡ Err f → graph_at bytes ≡ Err f
   unfolding graph_at refs_at
-  refs_fail count f e h = rw (magic, version, names_is, sym e, seen_err {Y = List (List ℕ) × ℕ} (λ x. (x.0, x.1.at)) (rows (ref_at bytes (length names)) count 0 (start (at_refs + 4))) f h) refl
+  refs_fail count f e h = rw (magic, version, names_is, sym e, seen_err {Y = List (List ℕ) × ℕ} (λ x. (x.0, x.1.at)) (rows (ref_at bytes (length names)) count 0 (first_row (at_refs + 4))) f h) refl
 
 module _ (bytes : List ℕ) (names : List (List ℕ)) (at_refs count after_refs : ℕ) (one : List Bool)
     (magic : u4_at bytes 0 ≡ Ok 0x46434752) (version : u2_at bytes 4 ≡ Ok 1) (names_is : names_at bytes 6 ≡ Ok (names, at_refs))
-    (count_is : u4_at bytes at_refs ≡ Ok count) (refs : Marked refs_uses (refs_read bytes (length names) count (start (at_refs + 4))) (replicate (length names) false) after_refs one) where
-  ended_rows : (r : Result (List (List ℕ) × Begun) RecordFault) → seen {Y = List (List ℕ) × ℕ} (λ x. (x.0, x.1.at)) r ≡ Ok (refs.value, after_refs) → (s : Begun) × (r ≡ Ok (refs.value, s)) × (s.at ≡ after_refs)
+    (count_is : u4_at bytes at_refs ≡ Ok count) (refs : Marked refs_uses (refs_read bytes (length names) count (first_row (at_refs + 4))) (replicate (length names) false) after_refs one) where
+  ended_rows : (r : Result (List (List ℕ) × TablePlace) RecordFault) → seen {Y = List (List ℕ) × ℕ} (λ x. (x.0, x.1.at)) r ≡ Ok (refs.value, after_refs) → (s : TablePlace) × (r ≡ Ok (refs.value, s)) × (s.at ≡ after_refs)
   ended_rows r e =
       let m = seen_ok {Y = List (List ℕ) × ℕ} (λ x. (x.0, x.1.at)) r (refs.value, after_refs) e in
       (m.0.1, m.1 ∙ ap (λ (y : List (List ℕ) × ℕ). Ok (y.0, m.0.1)) m.2, ap (λ (y : List (List ℕ) × ℕ). y.1) m.2)
 
-  refs_rows : (s : Begun) × (rows (ref_at bytes (length names)) count 0 (start (at_refs + 4)) ≡ Ok (refs.value, s)) × (s.at ≡ after_refs)
-  refs_rows = ended_rows (rows (ref_at bytes (length names)) count 0 (start (at_refs + 4))) refs.read_is
+  refs_rows : (s : TablePlace) × (rows (ref_at bytes (length names)) count 0 (first_row (at_refs + 4)) ≡ Ok (refs.value, s)) × (s.at ≡ after_refs)
+  refs_rows = ended_rows (rows (ref_at bytes (length names)) count 0 (first_row (at_refs + 4))) refs.read_is
 
   pub refs_long : length refs.value ≡ count
-  refs_long = rows_many (ref_at bytes (length names)) count 0 (start (at_refs + 4)) (refs.value, refs_rows.0) refs_rows.1
+  refs_long = rows_many (ref_at bytes (length names)) count 0 (first_row (at_refs + 4)) (refs.value, refs_rows.0) refs_rows.1
 
   pub refs_are : refs_at bytes (length names) at_refs ≡ Ok (refs.value, after_refs)
   unfolding refs_at

@@ -71,3 +71,7 @@ texts_table texts numbers are = same_table texts (map (name_in texts) numbers)
 -- a text of a table has its place as its number
 pub hint_is : (names : List (List ℕ)) (n : ℕ) (name : List ℕ) → Rises names → IsTextOf names n name → n ≡ place names name
 hint_is names n name rises is = sym (place_at names n [] rises is.0) ∙ ap (place names) is.1
+
+-- before the first name
+pub none_yet : (texts : List (List ℕ)) (numbers : List ℕ) → texts ≡ [] → numbers ≡ [] → AreMentions texts numbers
+none_yet texts numbers t n = subst (λ (l : List (List ℕ)). AreMentions l numbers) (sym t) (subst (λ (m : List ℕ). AreMentions [] m) (sym n) (record { below = tt; named = λ x c. absurd (among_from_contains x [] c) }))

@@ -8,20 +8,20 @@ use Rattle.fcg_grammar.proofs.RowLemmas.{with_front, rows_go_on, rows_end}
 use Rattle.fcg_partial.specs.declared.fault.RecordFault.{RecordFault}
 use Rattle.std.proofs.lemmas.List.{length-take, length-drop}
 use Rattle.fcg_grammar.specs.Number.{u2, part}
-use Rattle.fcg_partial.specs.Reading.{Begun, name_at, name_place}
-use Rattle.fcg_partial.specs.Internal.RowPlaces.{text_at, HasText, Follow, begun}
+use Rattle.fcg_partial.specs.Reading.{TablePlace, name_at, name_place}
+use Rattle.fcg_partial.specs.Internal.RowPlaces.{text_at, HasText, Follow, after_row}
 use Rattle.fcg_grammar.proofs.Among.{map_append}
 
-abbrev pub rows_end_at : Result (List (List ℕ) × Begun) RecordFault → Result (List (List ℕ) × ℕ) RecordFault
+abbrev pub rows_end_at : Result (List (List ℕ) × TablePlace) RecordFault → Result (List (List ℕ) × ℕ) RecordFault
 rows_end_at read = seen (λ x. (x.0, x.1.at)) read
 
-pub names_go_on : (bytes places : List ℕ) (count k : ℕ) (s : Begun) (x : List ℕ) (after : ℕ) (total : Result (List (List ℕ) × Begun) RecordFault) → k < count → Ok (x, begun after x) ≡ name_at bytes k s → text_at bytes s.at ≡ x
-    → with_front (map (text_at bytes) places) (rows (name_at bytes) (count - k) k s) ≡ total → with_front (map (text_at bytes) (places ++ s.at ∷ [])) (rows (name_at bytes) (count - (k + 1)) (k + 1) (begun after x)) ≡ total
+pub names_go_on : (bytes places : List ℕ) (count k : ℕ) (s : TablePlace) (x : List ℕ) (after : ℕ) (total : Result (List (List ℕ) × TablePlace) RecordFault) → k < count → Ok (x, after_row after x) ≡ name_at bytes k s → text_at bytes s.at ≡ x
+    → with_front (map (text_at bytes) places) (rows (name_at bytes) (count - k) k s) ≡ total → with_front (map (text_at bytes) (places ++ s.at ∷ [])) (rows (name_at bytes) (count - (k + 1)) (k + 1) (after_row after x)) ≡ total
 names_go_on bytes places count k s x after total lt h text so_far =
     let front : map (text_at bytes) (places ++ s.at ∷ []) ≡ map (text_at bytes) places ++ x ∷ [] = map_append (text_at bytes) places (s.at ∷ []) ∙ ap (λ (y : List ℕ). map (text_at bytes) places ++ y ∷ []) text in
-    rw front (rows_go_on (name_at bytes) (map (text_at bytes) places) count k s x (begun after x) total lt (sym h) so_far)
+    rw front (rows_go_on (name_at bytes) (map (text_at bytes) places) count k s x (after_row after x) total lt (sym h) so_far)
 
-pub names_end : (bytes places : List ℕ) (count k : ℕ) (s : Begun) (f : RecordFault) (total : Result (List (List ℕ) × Begun) RecordFault) → k < count → Err f ≡ name_at bytes k s
+pub names_end : (bytes places : List ℕ) (count k : ℕ) (s : TablePlace) (f : RecordFault) (total : Result (List (List ℕ) × TablePlace) RecordFault) → k < count → Err f ≡ name_at bytes k s
     → with_front (map (text_at bytes) places) (rows (name_at bytes) (count - k) k s) ≡ total → rows_end_at total ≡ Err f
 names_end bytes places count k s f total lt h so_far = ap rows_end_at (rows_end (name_at bytes) (map (text_at bytes) places) count k s f total lt (sym h) so_far)
 

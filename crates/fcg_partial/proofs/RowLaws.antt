@@ -1,7 +1,7 @@
 -- The rows of a graph by numbers below their counts, and the numbers in them.
-use Rattle.std.proofs.Common.{◌≡◌, ℕ, zero, suc, ◌<◌, ◌⊎◌, inl, inr, List, [], ◌∷◌, ◌++◌, length, refl, sym, ap, subst, ◌∙◌, arith}
-use Rattle.std.specs.Prelude.{slice_get, slice_index_or, Option, Some, None, IfSome}
-use Rattle.fcg_grammar.proofs.Among.{Among, among_all, among_map, among_flat}
+use Rattle.std.proofs.Common.{◌≡◌, ℕ, zero, suc, ◌<◌, ◌⊎◌, inl, inr, List, [], ◌∷◌, length, refl, sym, ap, subst, ◌∙◌, arith}
+use Rattle.std.specs.Prelude.{slice_get, slice_index_or, Some}
+use Rattle.fcg_grammar.proofs.Among.{among_all, among_map, among_flat}
 use Rattle.fcg_partial.specs.declared.row.TypeRow.{TypeRow}
 use Rattle.fcg_partial.specs.declared.row.FieldRow.{FieldRow}
 use Rattle.fcg_partial.specs.declared.row.MethodRow.{MethodRow}

@@ -14,7 +14,7 @@ use Rattle.fcg_partial.specs.declared.fault.RecordFault.{RecordFault}
 use Rattle.fcg_partial.specs.declared.fault.RecordRule.TheVariants.{Cut, Order, Index, Kind, DoubleMethod, ManySites}
 use Rattle.fcg_partial.specs.Fault.{fault, u1_at, u2_at, u4_at}
 use Rattle.fcg_partial.specs.Graph.{StoredType, StoredField, StoredMethod, StoredSite, number_at}
-use Rattle.fcg_partial.specs.Reading.{Begun, Earlier, is_above, index_at, flag_at, ref_at, kind_of, known_kind, kind_at, site_at, field_at, interface_at, some_index, super_at, method_at, type_at}
+use Rattle.fcg_partial.specs.Reading.{TablePlace, Earlier, is_above, index_at, flag_at, ref_at, kind_of, known_kind, kind_at, site_at, field_at, interface_at, some_index, super_at, method_at, type_at}
 use Rattle.fcg_partial.proofs.IndexLaws.{rows_many}
 use Rattle.fcg_partial.specs.Internal.StandingRows.{super_of, IsTypeAt, IsFieldAt, IsMethodAt, IsSiteAt, IsRefAt}
 
@@ -201,34 +201,34 @@ module _ (bytes : List ℕ) where
     pub name : u4_at bytes (at + 5) ≡ Ok (number_at 2 row)
     pub desc : u4_at bytes (at + 9) ≡ Ok (number_at 3 row)
 
-  ref_parts_at : (names k : ℕ) (s next : Begun) (row : List ℕ) → ref_at bytes names k s ≡ Ok (row, next) → RefParts s.at row × (next.at ≡ s.at + 13)
+  ref_parts_at : (names k : ℕ) (s next : TablePlace) (row : List ℕ) → ref_at bytes names k s ≡ Ok (row, next) → RefParts s.at row × (next.at ≡ s.at + 13)
   unfolding ref_at
   ref_parts_at names k s next row e =
-      let y : List ℕ × Begun = (row, next) in
+      let y : List ℕ × TablePlace = (row, next) in
       let a = bind_ok (index_at bytes names s.at) _ y e in
       let b = bind_ok (flag_at bytes (s.at + 4)) _ y a.2 in
       let c = bind_ok (index_at bytes names (s.at + 4 + 1)) _ y b.2 in
       let d = bind_ok (index_at bytes names (s.at + 4 + 1 + 4)) _ y c.2 in
       let made_row : List ℕ = a.0 ∷ b.0 ∷ c.0 ∷ d.0 ∷ [] in
       let f = bind_ok (unless_broken (is_above s.last made_row) (fault s.at Order)) _ y d.2 in
-      let made : List ℕ × Begun = (made_row, record { at = s.at + 4 + 1 + 4 + 4; last = Some made_row }) in
+      let made : List ℕ × TablePlace = (made_row, record { at = s.at + 4 + 1 + 4 + 4; last = Some made_row }) in
       let same = ok_is made y f.2 in
       let five : s.at + 4 + 1 ≡ s.at + 5 = omega arith in
       let nine : s.at + 4 + 1 + 4 ≡ s.at + 9 = omega arith in
       let all : s.at + 4 + 1 + 4 + 4 ≡ s.at + 13 = omega arith in (
-        subst (λ (z : List ℕ × Begun). RefParts s.at z.0) same (record {
+        subst (λ (z : List ℕ × TablePlace). RefParts s.at z.0) same (record {
           owner = index_number bytes names s.at a.0 a.1;
           interface = flag_number bytes (s.at + 4) b.0 b.1;
           name = subst (λ (n : ℕ). u4_at bytes n ≡ Ok c.0) five (index_number bytes names (s.at + 4 + 1) c.0 c.1);
           desc = subst (λ (n : ℕ). u4_at bytes n ≡ Ok d.0) nine (index_number bytes names (s.at + 4 + 1 + 4) d.0 d.1);
         }),
-        ap (λ (z : List ℕ × Begun). z.1.at) (sym same) ∙ all,
+        ap (λ (z : List ℕ × TablePlace). z.1.at) (sym same) ∙ all,
       )
 
   pub ref_parts : (at : ℕ) (row : List ℕ) → IsRefAt bytes at row → RefParts at row
   ref_parts at row h = subst (λ (n : ℕ). RefParts n row) h.at_is (ref_parts_at h.names h.number h.state h.next row h.read).0
 
-  pub ref_step : (names k : ℕ) (s : Begun) (x : List ℕ × Begun) → ref_at bytes names k s ≡ Ok x → x.1.at ≡ s.at + 13
+  pub ref_step : (names k : ℕ) (s : TablePlace) (x : List ℕ × TablePlace) → ref_at bytes names k s ≡ Ok x → x.1.at ≡ s.at + 13
   ref_step names k s x e = (ref_parts_at names k s x.1 x.0 e).1
 
   -- ---- methods

@@ -1,8 +1,8 @@
 -- The spelling of a graph has at least as many bytes as it has names, references, types, methods and sites.
-use Rattle.std.proofs.Common.{◌≡◌, ℕ, ◌+◌, ◌*◌, ◌≤◌, List, [], ◌∷◌, ◌++◌, length, refl, sym, ap, subst, ◌∙◌, arith}
-use Rattle.std.specs.Prelude.{map, Option, Some, None, sum_by}
+use Rattle.std.proofs.Common.{◌≡◌, ℕ, ◌+◌, ◌*◌, ◌≤◌, List, [], ◌∷◌, ◌++◌, length, refl, ap, arith}
+use Rattle.std.specs.Prelude.{Option, Some, None, sum_by}
 use Rattle.std.specs.List.{flat_map}
-use Rattle.std.proofs.lemmas.List.{length-append, append-nil}
+use Rattle.std.proofs.lemmas.List.{length-append}
 use Rattle.std.proofs.lemmas.List.Concat.{flat_map-cons}
 use Rattle.std.proofs.lemmas.List.Sums.{sum_by-cons}
 use Rattle.fcg_grammar.specs.Spell.{u2, u4}
@@ -10,8 +10,8 @@ use Rattle.fcg_views.specs.declared.view.View.{View}
 use Rattle.fcg_views.specs.declared.view.Method.{Method}
 use Rattle.fcg_views.specs.declared.view.Field.{Field}
 use Rattle.fcg_views.specs.declared.view.Site.{Site}
-use Rattle.fcg_views.specs.Valid.{site_count, sites_of_all, count_of_option, method_names, own_names, view_names, name_count}
-use Rattle.fcg_partial.specs.Graph.{name_text, ref_text, site_text, field_text, method_text, type_text, spelling}
+use Rattle.fcg_views.specs.Valid.{site_count, sites_of_all, count_of_option, method_names, view_names, name_count}
+use Rattle.fcg_partial.specs.Graph.{name_text, ref_text, spelling}
 use Rattle.fcg_partial.specs.Views.{type_row, graph_by, names_of, refs_of, graph_of, text_of}
 use Rattle.fcg_partial.specs.Internal.Written.{written_site, written_field, written_method, written_name, written_head, written_members, written_type, written_tables, written}
 use Rattle.fcg_partial.specs.Sizes.{HasAtMost}

@@ -10,7 +10,7 @@ use Rattle.fcg_grammar.specs.Rows.{rows}
 use Rattle.fcg_partial.specs.declared.fault.RecordFault.{RecordFault}
 use Rattle.fcg_partial.specs.Fault.{u2_at}
 use Rattle.fcg_partial.specs.Graph.{StoredField, StoredMethod, StoredType, super_uses, method_uses}
-use Rattle.fcg_partial.specs.Internal.UsedNumbers.{marked, Marked, marks_of, earlier, one_use, super_read, interfaces_read, interfaces_uses, fields_read, fields_uses, methods_read, PassesMethods, PassesType}
+use Rattle.fcg_partial.specs.Internal.UsedNumbers.{marked, Marked, used_marks, earlier, one_use, super_read, interfaces_read, interfaces_uses, fields_read, fields_uses, methods_read, PassesMethods, PassesType}
 use Rattle.fcg_partial.specs.Reading.{Earlier, index_at, super_at, method_at, type_at}
 use Rattle.fcg_partial.proofs.MarkLaws.{length_marked, marked_append}
 use Rattle.fcg_partial.proofs.SeenLaws.{seen_ok, seen_err}
@@ -52,8 +52,8 @@ module _ (bytes : List ℕ) (n r k at : ℕ) (old one two three four new refs re
       → Marked super_uses (super_read bytes n (at + 4 + 2)) one after_super two → u2_at bytes after_super ≡ Ok many
       → Marked interfaces_uses (interfaces_read bytes n many (after_super + 2)) two after_interfaces three → u2_at bytes after_interfaces ≡ Ok more
       → Marked fields_uses (fields_read bytes n more (after_interfaces + 2)) three after_fields four → u2_at bytes after_fields ≡ Ok most
-      → (result : Result ℕ (ReadError RecordFault)) → PassesMethods bytes n r (methods_read bytes n r most (after_fields + 2)) (marks_of four refs) (marks_of new refs_new) before now result
-      → PassesType bytes n r (type_at bytes n r k at) (marks_of old refs) (marks_of new refs_new) before now result
+      → (result : Result ℕ (ReadError RecordFault)) → PassesMethods bytes n r (methods_read bytes n r most (after_fields + 2)) (used_marks four refs) (used_marks new refs_new) before now result
+      → PassesType bytes n r (type_at bytes n r k at) (used_marks old refs) (used_marks new refs_new) before now result
   unfolding type_at
   type_passes name_is one_is flags_is super many_is interfaces more_is fields most_is result methods =
       let read = rows (method_at bytes n r) most 0 (earlier (after_fields + 2) [] 0) in
@@ -64,8 +64,8 @@ module _ (bytes : List ℕ) (n r k at : ℕ) (old one two three four new refs re
       by_result result chain methods
     where
       by_result : (result : Result ℕ (ReadError RecordFault)) → type_at bytes n r k at ≡ made bytes n r at name flags super.value interfaces.value fields.value (rows (method_at bytes n r) most 0 (earlier (after_fields + 2) [] 0))
-          → PassesMethods bytes n r (methods_read bytes n r most (after_fields + 2)) (marks_of four refs) (marks_of new refs_new) before now result
-          → PassesType bytes n r (type_at bytes n r k at) (marks_of old refs) (marks_of new refs_new) before now result
+          → PassesMethods bytes n r (methods_read bytes n r most (after_fields + 2)) (used_marks four refs) (used_marks new refs_new) before now result
+          → PassesType bytes n r (type_at bytes n r k at) (used_marks old refs) (used_marks new refs_new) before now result
       by_result (Err e) chain methods = rw chain (made_fails bytes n r at name flags super.value interfaces.value fields.value e _ methods)
       by_result (Ok after) chain methods = record {
         type = type_of bytes n r at name flags super.value interfaces.value fields.value methods.methods;

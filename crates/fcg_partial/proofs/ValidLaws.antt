@@ -1,20 +1,19 @@
 -- A stored graph shows valid views.
-use Rattle.std.proofs.Common.{◌≡◌, ℕ, zero, suc, ◌+◌, ◌^◌, ◌<◌, ◌≤◌, Bool, true, false, ◌&&◌, List, [], ◌∷◌, ◌++◌, length, get_or, refl, sym, ap, subst, ◌∙◌, inl, inr, arith}
-use Rattle.std.specs.Prelude.{map, All, Option, Some, None, nat_eq, slice_index_or}
+use Rattle.std.proofs.Common.{◌≡◌, ℕ, zero, suc, ◌^◌, ◌<◌, ◌≤◌, Bool, true, false, ◌&&◌, List, [], ◌∷◌, ◌++◌, length, refl, sym, ap, subst, ◌∙◌, inl, inr, arith}
+use Rattle.std.specs.Prelude.{map, All, Option, Some, None, nat_eq}
 use Rattle.std.specs.List.{flat_map, AllByRecursion, IsDistinct}
 use Rattle.std.specs.Cmp.Lexicographic.{pointwise, same_text, nat_list_eq_equiv}
 use Rattle.std.proofs.lemmas.List.Elements.{All-from_recursion}
 use Rattle.std.proofs.lemmas.List.Sums.{sum_by-cons}
 use Rattle.std.proofs.lemmas.Map.Keys.{IsDistinct-cons, IsDistinct-head, IsDistinct-tail}
-use Rattle.fcg_grammar.specs.Table.{Rises, place}
-use Rattle.fcg_grammar.proofs.Among.{Among, among_all, all_from_among, among_left, among_right, among_flat}
+use Rattle.fcg_grammar.specs.Table.{place}
+use Rattle.fcg_grammar.proofs.Among.{Among, among_all, all_from_among, among_right, among_flat}
 use Rattle.fcg_grammar.proofs.TableLaws.{place_at}
-use Rattle.fcg_views.specs.declared.view.View.{View}
 use Rattle.fcg_views.specs.declared.view.Method.{Method}
 use Rattle.fcg_views.specs.Valid as valid
 use Rattle.fcg_views.specs.Valid.{IsShort, IsShortOrNone, HasShortNames, IsValidField, IsValidMethod, IsValid, is_same, is_alike}
-use Rattle.fcg_partial.specs.Graph.{Graph, StoredType, StoredField, StoredMethod, StoredSite, FitsName, FitsType, IsGraph, key, site_count, ref_uses, super_uses, field_uses, method_uses, type_uses, name_uses}
-use Rattle.fcg_partial.specs.Views.{name_in, super_in, shown_ref, shown_site, shown_field, shown_method, shown_type, shown}
+use Rattle.fcg_partial.specs.Graph.{Graph, StoredType, StoredMethod, StoredSite, FitsName, FitsType, IsGraph, key, site_count, ref_uses, super_uses, field_uses, method_uses, type_uses, name_uses}
+use Rattle.fcg_partial.specs.Views.{name_in, super_in, shown_site, shown_field, shown_method, shown_type, shown}
 use Rattle.fcg_partial.proofs.IndexLaws.{length_map}
 
 short_in : (names : List (List ℕ)) → AllByRecursion FitsName names → (n : ℕ) → IsShort (name_in names n)

@@ -1,5 +1,5 @@
 -- What the accessors answer: the rows of a graph, by their numbers.
-use Rattle.std.specs.Prelude.{◌≡◌, ◌<◌, ℕ, List, [], length, ◌==◌, slice_get, slice_index_or, Option, Some, None, IfSome}
+use Rattle.std.specs.Prelude.{◌≡◌, ◌<◌, ℕ, List, [], length, ◌==◌, slice_get, slice_index_or, Some, None, IfSome}
 use Rattle.fcg_partial.specs.declared.row.TypeRow.{TypeRow}
 use Rattle.fcg_partial.specs.declared.row.FieldRow.{FieldRow}
 use Rattle.fcg_partial.specs.declared.row.MethodRow.{MethodRow}

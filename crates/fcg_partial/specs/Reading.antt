@@ -17,7 +17,7 @@ use Rattle.fcg_partial.specs.Graph.{Graph, StoredType, StoredField, StoredMethod
 use Rattle.fcg_partial.specs.Views.{shown}
 
 -- a row of a table that rises: where the next stands, and the one before it
-pub record Begun : Type 0 where
+pub record TablePlace : Type 0 where
   pub at : ℕ
   pub last : Option (List ℕ)
 
@@ -25,7 +25,7 @@ abbrev pub is_above : Option (List ℕ) → List ℕ → Bool
 is_above None row = true
 is_above (Some last) row = is_lt (order last row)
 
-unfoldable pub name_at : List ℕ → ℕ → Begun → Result (List ℕ × Begun) RecordFault
+unfoldable pub name_at : List ℕ → ℕ → TablePlace → Result (List ℕ × TablePlace) RecordFault
 name_at bytes k s = do
   n ← u2_at bytes s.at
   name ← part_at bytes (s.at + 2) n
@@ -45,7 +45,7 @@ flag_at bytes at = do
   flag ← unless_broken (nat_lt b 2) (fault at Kind)
   Ok b
 
-unfoldable pub ref_at : List ℕ → ℕ → ℕ → Begun → Result (List ℕ × Begun) RecordFault
+unfoldable pub ref_at : List ℕ → ℕ → ℕ → TablePlace → Result (List ℕ × TablePlace) RecordFault
 ref_at bytes names k s = do
   owner ← index_at bytes names s.at
   interface ← flag_at bytes (s.at + 4)

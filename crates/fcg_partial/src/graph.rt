@@ -68,7 +68,7 @@ fn write_views(
     ensures graph { IfOk result (λ out. IsGraph (graph_of views.now)) }
 {
     let refs = make_ref_table(alloc, names, views, &mut hints)?;
-    hints.restart();
+    hints.begin_types(alloc, refs.as_slice())?;
     write_graph(alloc, names, refs.as_slice(), views, &mut hints)
 }
 
@@ -102,9 +102,10 @@ impl PartialGraph {
     /// The graph of these views. The names in them are fewer than 2^32, which `Views::fits` tells, and each is valid,
     /// which `is_valid` tells.
     ///
-    /// It sorts the names and the references, each as often as it stands in the views, and takes a logarithm of their
-    /// number in comparisons for each of them; then it writes the bytes and makes one pass over them. More than
-    /// 4,294,967,295 bytes are refused as want of memory.
+    /// A name is found by its place in its class file. So its bytes are hashed once in each class, and compared with the
+    /// text that was found three times for each time that it stands in the views. Only the distinct texts are sorted, and
+    /// the references, each as often as a site names it; then the bytes are written, and one pass is made over them. More
+    /// than 4,294,967,295 bytes are refused as want of memory.
     pub fn from_views(alloc: Global, views: Views) -> Result<PartialGraph, NoMemory>
         requires fits { name_count views < 2 ^ 32 }
         requires valid { All IsValid views }

@@ -100,7 +100,7 @@ fn push_names(names: &mut Mentions, views: &[View]) -> Result<(), AllocError>
 pub(crate) fn collect_names(alloc: Global, views: &[View]) -> Result<Mentions, AllocError>
     ensures { IfOk result (λ names. names ≡ collected views.now) }
 {
-    let mut names = Mentions::new(alloc);
+    let mut names = Mentions::new(alloc, views.len())?;
     push_names(&mut names, views)?;
     Ok(names)
 }
@@ -114,12 +114,22 @@ fn sort_names(mut names: Vec<Name>) -> Vec<Name>
     names
 }
 
-// For each name of the views, in the order in which the types are written, the number that it probably has. A number is
-// compared before it is used, so nothing is said of them.
+// For each name of the views, in the order in which the types are written, the number that it probably has; and by a hash
+// of its row the number that a reference probably has. What a number stands for is compared before it is used, so nothing
+// is said of the numbers.
 #[derive(Drop)]
 pub(crate) struct Hints {
     numbers: Vec<u32>,
     next: usize,
+    refs: Vec<u32>,
+}
+
+// The row of a reference in a table of so many rows.
+fn row_of_ref(row: &RefRow4, rows: usize) -> usize {
+    let mixed = row[0].wrapping_mul(0x9e37_79b1)
+        ^ row[2].wrapping_mul(0x85eb_ca77)
+        ^ row[3].wrapping_mul(0xc2b2_ae3d);
+    mixed as usize % rows.max(1)
 }
 
 impl Hints {
@@ -135,20 +145,48 @@ impl Hints {
         self.next = self.next.saturating_add(count);
     }
 
-    // Begins with the first name again.
-    pub(crate) fn restart(&mut self) {
+    // Begins with the first name again, and keeps the numbers of these references.
+    pub(crate) fn begin_types(&mut self, alloc: Global, refs: &[RefRow4]) -> Result<(), AllocError>
+        requires { length refs.now < 2 ^ 32 }
+    {
+        let rows = refs.len().saturating_mul(2);
+        let mut numbers = vec![in alloc; 0; rows]?;
+        for i in 0..refs.len() {
+            if let Some(number) = numbers.get_mut(row_of_ref(&refs[i], rows)) {
+                *number = i as u32;
+            }
+        }
+        self.refs = numbers;
         self.next = 0;
+        Ok(())
+    }
+
+    // The number that a reference probably has.
+    pub(crate) fn find_ref(&self, row: &RefRow4) -> u32 {
+        let at = row_of_ref(row, self.refs.len());
+        self.refs.get(at).copied().unwrap_or(0)
     }
 }
 
-// The numbers of texts in the table.
-fn number_texts(alloc: Global, names: &[Name], texts: &[Name]) -> Result<Vec<u32>, AllocError>
+// For each text the number that it probably has in the table.
+fn number_texts(alloc: Global, names: &[Name], mentions: &Mentions) -> Result<Vec<u32>, AllocError>
     requires rises { Rises names.now }
     requires few { length names.now < 2 ^ 32 }
 {
-    let mut numbers = Vec::with_capacity(alloc, texts.len())?;
-    for text in texts {
-        numbers.push(number_of(names, text, u32::MAX))?;
+    let texts = mentions.texts();
+    let mut numbers = vec![in alloc; u32::MAX; texts.len()]?;
+    for i in 0..names.len() {
+        let text = mentions.find(&names[i]).unwrap_or(u32::MAX);
+        if let Some(number) = numbers.get_mut(text as usize) {
+            *number = i as u32;
+        }
+    }
+    for i in 0..texts.len() {
+        if let Some(number) = numbers.get_mut(i) {
+            if *number == u32::MAX {
+                *number = number_of(names, &texts[i], u32::MAX);
+            }
+        }
     }
     Ok(numbers)
 }
@@ -169,10 +207,11 @@ pub(crate) fn make_hints(
     requires rises { Rises names.now }
     requires few { length names.now < 2 ^ 32 }
 {
-    let numbers = number_texts(alloc, names, mentions.texts())?;
+    let numbers = number_texts(alloc, names, &mentions)?;
     Ok(Hints {
         numbers: mentions.renumbered(&numbers),
         next: 0,
+        refs: Vec::new(alloc),
     })
 }
 
@@ -256,7 +295,7 @@ fn collect_rows(
     requires few { length names.now < 2 ^ 32 }
     ensures { IfOk result (λ rows. rows.items ≡ flat_map (view_rows names.now) views.now) }
 {
-    let mut rows = Vec::new(alloc);
+    let mut rows = Vec::with_capacity(alloc, hints.numbers.len() / 3)?;
     for view in views {
         hints.skip(count_own_names(view));
         push_method_rows(&mut rows, names, view.methods.as_slice(), hints)?;
@@ -298,11 +337,25 @@ pub(crate) fn make_ref_table(
     Ok(sort_rows(collect_rows(alloc, names, views, hints)?))
 }
 
-// The number of a reference, by a search in the table; the number past its end for one that isn't there.
-pub(crate) fn ref_number_of(refs: &[RefRow4], row: &RefRow4) -> u32
+// Whether the row of a number is this.
+fn is_row(refs: &[RefRow4], number: u32, row: &RefRow4) -> bool
+    ensures { IsTrue result → IsTextOf refs.now number row.now }
+{
+    match refs.get(number as usize) {
+        Some(other) => other == row,
+        None => false,
+    }
+}
+
+// The number of a reference: the one that it probably has, or else by a search in the table; the number past its end for
+// one that isn't there.
+pub(crate) fn ref_number_of(refs: &[RefRow4], row: &RefRow4, hint: u32) -> u32
     requires rises { Rises refs.now }
     requires few { length refs.now < 2 ^ 32 }
     ensures { result ≡ place refs.now row.now }
 {
+    if is_row(refs, hint, row) {
+        return hint;
+    }
     refs.binary_search(row).unwrap_or(refs.len()) as u32
 }

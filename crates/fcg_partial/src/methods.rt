@@ -1,7 +1,7 @@
 //! The methods of a type, no two of which have one name and descriptor.
 ghost use Rattle.std.specs.Prelude.{◌≡◌, ◌≤◌, ◌<◌, ◌^◌, ◌+◌, ℕ, List, length, IfOk};
 ghost use Rattle.fcg_partial.specs.Reading.{method_at};
-ghost use Rattle.fcg_partial.specs.Internal.UsedNumbers.{marks_of, AreKeys, PassesMethod, PassesMethods, earlier, methods_read};
+ghost use Rattle.fcg_partial.specs.Internal.UsedNumbers.{used_marks, AreKeys, PassesMethod, PassesMethods, earlier, methods_read};
 
 use crate::fault::{RecordFault, RecordRule, fault_at};
 use crate::marks::read_index;
@@ -26,7 +26,7 @@ fn read_method(
 ) -> Result<(usize, u32), ReadError<RecordFault>>
     requires inside { at ≤ length bytes.now }
     requires few { sites ≤ 1000000 }
-    ensures value { (k : ℕ) (before : List (List ℕ)) → AreKeys keys.old before → PassesMethod (method_at bytes.now (length names.old) (length refs.old) k (earlier at before sites)) (marks_of names.old refs.old) (marks_of names.new refs.new) keys.new result }
+    ensures value { (k : ℕ) (before : List (List ℕ)) → AreKeys keys.old before → PassesMethod (method_at bytes.now (length names.old) (length refs.old) k (earlier at before sites)) (used_marks names.old refs.old) (used_marks names.new refs.new) keys.new result }
     ensures inside { IfOk result (λ x. (at < x.0) × (x.0 ≤ length bytes.now)) }
     ensures few { IfOk result (λ x. x.1 ≤ 1000000) }
 {
@@ -57,7 +57,7 @@ pub(crate) fn read_methods(
 ) -> Result<usize, ReadError<RecordFault>>
     requires inside { at ≤ length bytes.now }
     requires small { length bytes.now < 2 ^ 32 }
-    ensures value { PassesMethods bytes.now (length names.old) (length refs.old) (methods_read bytes.now (length names.old) (length refs.old) count at) (marks_of names.old refs.old) (marks_of names.new refs.new) places.old.items places.new.items result }
+    ensures value { PassesMethods bytes.now (length names.old) (length refs.old) (methods_read bytes.now (length names.old) (length refs.old) count at) (used_marks names.old refs.old) (used_marks names.new refs.new) places.old.items places.new.items result }
     ensures inside { IfOk result (λ after. (at ≤ after) × (after ≤ length bytes.now)) }
     ensures few { IfOk result (λ after. length places.new.items + at ≤ length places.old.items + after) }
 {

@@ -4,7 +4,7 @@ ghost use Rattle.std.specs.List.{AllByRecursion};
 ghost use Rattle.fcg_grammar.specs.Number.{u2};
 ghost use Rattle.fcg_grammar.specs.Reading.{seen, Gives};
 ghost use Rattle.fcg_partial.specs.Reading.{is_above, name_at, names_at};
-ghost use Rattle.fcg_partial.specs.Internal.RowPlaces.{text_at, HasText, Follow, begun, of_last, names_read};
+ghost use Rattle.fcg_partial.specs.Internal.RowPlaces.{text_at, HasText, Follow, after_row, of_last, names_read};
 
 use crate::fault::{RecordFault, RecordRule, fault_at};
 use crate::number::{read_part, read_u2, read_u4};
@@ -29,7 +29,7 @@ fn read_name<'a>(
     last: Option<&[u8]>,
 ) -> Result<(&'a [u8], usize), RecordFault>
     requires { at ≤ length bytes.now }
-    ensures value { (k : ℕ) → seen (λ x. (x.0.now, begun x.1 x.0.now)) result ≡ name_at bytes.now k (record { at = at; last = of_last last.entry }) }
+    ensures value { (k : ℕ) → seen (λ x. (x.0.now, after_row x.1 x.0.now)) result ≡ name_at bytes.now k (record { at = at; last = of_last last.entry }) }
     ensures inside { IfOk result (λ x. x.1 ≤ length bytes.now) }
     ensures text { IfOk result (λ x. (text_at bytes.now at ≡ x.0.now) × HasText bytes.now at) }
     ensures next { IfOk result (λ x. x.1 ≡ at + 2 + u2 bytes.now at) }

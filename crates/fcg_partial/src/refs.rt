@@ -4,7 +4,7 @@ ghost use Rattle.fcg_grammar.specs.Reading.{seen};
 ghost use Rattle.fcg_partial.specs.Reading.{ref_at, is_above};
 ghost use Rattle.fcg_partial.specs.Graph.{ref_uses};
 ghost use Rattle.fcg_partial.specs.Internal.UsedNumbers.{marked, Passes, refs_read, refs_uses};
-ghost use Rattle.fcg_partial.specs.Internal.RowPlaces.{begun, same_row, start};
+ghost use Rattle.fcg_partial.specs.Internal.RowPlaces.{after_row, same_row, first_row};
 
 use crate::fault::{RecordFault, RecordRule, fault_at};
 use crate::marks::{read_flag, read_index};
@@ -28,7 +28,7 @@ fn read_ref(
     used: &mut [bool],
 ) -> Result<[u32; 4], RecordFault>
     requires { at ≤ length bytes.now }
-    ensures value { (k : ℕ) → seen (λ row. (same_row row, begun (at + 4 + 1 + 4 + 4) row)) result ≡ ref_at bytes.now (length used.old) k (record { at = at; last = last.now }) }
+    ensures value { (k : ℕ) → seen (λ row. (same_row row, after_row (at + 4 + 1 + 4 + 4) row)) result ≡ ref_at bytes.now (length used.old) k (record { at = at; last = last.now }) }
     ensures inside { OnOk result (at + 4 + 1 + 4 + 4 ≤ length bytes.now) }
     ensures marks { IfOk result (λ row. used.new ≡ marked used.old (ref_uses row)) }
 {
@@ -51,7 +51,7 @@ pub(crate) fn read_refs(
     used: &mut [bool],
 ) -> Result<usize, RecordFault>
     requires { at ≤ length bytes.now }
-    ensures value { Passes refs_uses (refs_read bytes.now (length used.old) count (start at)) used.old used.new result }
+    ensures value { Passes refs_uses (refs_read bytes.now (length used.old) count (first_row at)) used.old used.new result }
     ensures inside { IfOk result (λ after. (after ≤ length bytes.now) × (after ≡ at + 13 * count)) }
 {
     let mut place = at;

@@ -10,7 +10,7 @@ use crate::rows::{NO_SUPERCLASS, kind_of};
 use fcg_views::SiteKind;
 
 /// A type, by the numbers of its names and the counts of its rows.
-#[derive(Clone, Copy, Debug, PartialEq, Eq)]
+#[derive(Clone, Copy, PartialEq, Eq)]
 pub struct TypeRow {
     pub name: u32,
     pub flags: u16,
@@ -24,7 +24,7 @@ pub struct TypeRow {
 }
 
 /// A field, by the numbers of its name and its descriptor.
-#[derive(Clone, Copy, Debug, PartialEq, Eq)]
+#[derive(Clone, Copy, PartialEq, Eq)]
 pub struct FieldRow {
     pub name: u32,
     pub desc: u32,
@@ -32,7 +32,7 @@ pub struct FieldRow {
 }
 
 /// A method, by the numbers of its name and its descriptor.
-#[derive(Clone, Copy, Debug, PartialEq, Eq)]
+#[derive(Clone, Copy, PartialEq, Eq)]
 pub struct MethodRow {
     pub name: u32,
     pub desc: u32,
@@ -42,7 +42,7 @@ pub struct MethodRow {
 }
 
 /// A site, by the number of its reference.
-#[derive(Clone, Copy, Debug, PartialEq, Eq)]
+#[derive(Clone, Copy, PartialEq, Eq)]
 pub struct SiteRow {
     pub pc: u16,
     pub kind: SiteKind,
@@ -50,7 +50,7 @@ pub struct SiteRow {
 }
 
 /// A reference, by the numbers of its names.
-#[derive(Clone, Copy, Debug, PartialEq, Eq)]
+#[derive(Clone, Copy, PartialEq, Eq)]
 pub struct RefRow {
     pub owner: u32,
     pub owner_is_interface_ref: bool,

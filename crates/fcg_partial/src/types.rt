@@ -1,7 +1,7 @@
 //! The types of a stored graph, with the places of their rows.
 ghost use Rattle.std.specs.Prelude.{◌≡◌, ◌≤◌, ◌<◌, ◌^◌, ◌+◌, ℕ, length, IfOk};
 ghost use Rattle.fcg_partial.specs.Reading.{type_at};
-ghost use Rattle.fcg_partial.specs.Internal.UsedNumbers.{marks_of, PassesType, PassesTypes, types_read};
+ghost use Rattle.fcg_partial.specs.Internal.UsedNumbers.{used_marks, PassesType, PassesTypes, types_read};
 
 use crate::fault::RecordFault;
 use crate::marks::read_index;
@@ -34,7 +34,7 @@ fn read_type(
 ) -> Result<usize, ReadError<RecordFault>>
     requires inside { at ≤ length bytes.now }
     requires small { length bytes.now < 2 ^ 32 }
-    ensures value { (k : ℕ) → PassesType bytes.now (length names.old) (length refs.old) (type_at bytes.now (length names.old) (length refs.old) k at) (marks_of names.old refs.old) (marks_of names.new refs.new) methods.old.items methods.new.items result }
+    ensures value { (k : ℕ) → PassesType bytes.now (length names.old) (length refs.old) (type_at bytes.now (length names.old) (length refs.old) k at) (used_marks names.old refs.old) (used_marks names.new refs.new) methods.old.items methods.new.items result }
     ensures inside { IfOk result (λ after. (at ≤ after) × (after ≤ length bytes.now)) }
     ensures few { IfOk result (λ after. length methods.new.items + at ≤ length methods.old.items + after) }
 {
@@ -60,7 +60,7 @@ pub(crate) fn read_types(
 ) -> Result<(Places, usize), ReadError<RecordFault>>
     requires inside { at ≤ length bytes.now }
     requires small { length bytes.now < 2 ^ 32 }
-    ensures value { PassesTypes bytes.now (length names.old) (length refs.old) (types_read bytes.now (length names.old) (length refs.old) count at) (marks_of names.old refs.old) (marks_of names.new refs.new) result }
+    ensures value { PassesTypes bytes.now (length names.old) (length refs.old) (types_read bytes.now (length names.old) (length refs.old) count at) (used_marks names.old refs.old) (used_marks names.new refs.new) result }
     ensures inside { IfOk result (λ x. x.1 ≤ length bytes.now) }
 {
     let room = (count as usize).min(bytes.len() / 22);

@@ -114,10 +114,8 @@ fn push_site(
 {
     push_u2(out, site.pc)?;
     out.push(byte_of(site.kind))?;
-    push_u4(
-        out,
-        ref_number_of(refs, &make_row(names, &site.target, hints)),
-    )
+    let row = make_row(names, &site.target, hints);
+    push_u4(out, ref_number_of(refs, &row, hints.find_ref(&row)))
 }
 
 fn push_sites(

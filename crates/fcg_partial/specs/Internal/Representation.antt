@@ -9,7 +9,7 @@ use Rattle.fcg_partial.specs.declared.index.Index.{Index}
 use Rattle.fcg_partial.specs.declared.types.Places.{Places}
 use Rattle.fcg_partial.specs.Graph.{Graph}
 use Rattle.fcg_partial.specs.Reading.{graph_at, names_at, refs_at}
-use Rattle.fcg_partial.specs.Internal.RowPlaces.{text_at, HasText, Follow, start}
+use Rattle.fcg_partial.specs.Internal.RowPlaces.{text_at, HasText, Follow, first_row}
 use Rattle.fcg_partial.specs.Internal.UsedNumbers.{ArePlaces, Marked, refs_read, refs_uses}
 use Rattle.fcg_partial.specs.Fault.{u2_at, u4_at}
 
@@ -48,7 +48,7 @@ no_marks bytes names = replicate (length (map (text_at bytes) names)) false
 -- The references were read, with their marks, and the types come next.
 pub record HasRefs (bytes names : List ℕ) (refs after : ℕ) (used : List Bool) (count : ℕ) : Type 0 where
   pub count_is : u4_at bytes refs ≡ Ok count
-  pub read : Marked refs_uses (refs_read bytes (length (map (text_at bytes) names)) count (start (refs + 4))) (no_marks bytes names) after used
+  pub read : Marked refs_uses (refs_read bytes (length (map (text_at bytes) names)) count (first_row (refs + 4))) (no_marks bytes names) after used
 
 pub record IsKept (bytes : List ℕ) (index : Index) : Type 0 where
   pub are : IsBytes bytes

@@ -1,7 +1,7 @@
 -- The row that stands at a place in the bytes.
 use Rattle.std.specs.Prelude.{◌≡◌, ℕ, List, ◌==◌, Option, Some, None, Ok, if◌then◌else◌}
 use Rattle.fcg_partial.specs.Graph.{StoredType, StoredField, StoredMethod, StoredSite}
-use Rattle.fcg_partial.specs.Reading.{Begun, Earlier, ref_at, type_at, field_at, method_at, site_at}
+use Rattle.fcg_partial.specs.Reading.{TablePlace, Earlier, ref_at, type_at, field_at, method_at, site_at}
 
 pub record IsTypeAt (bytes : List ℕ) (at : ℕ) (t : StoredType) : Type 0 where
   pub names : ℕ
@@ -34,8 +34,8 @@ pub record IsSiteAt (bytes : List ℕ) (at : ℕ) (s : StoredSite) : Type 0 wher
 pub record IsRefAt (bytes : List ℕ) (at : ℕ) (row : List ℕ) : Type 0 where
   pub names : ℕ
   pub number : ℕ
-  pub state : Begun
-  pub next : Begun
+  pub state : TablePlace
+  pub next : TablePlace
   pub at_is : state.at ≡ at
   pub read : ref_at bytes names number state ≡ Ok (row, next)
 

@@ -12,7 +12,7 @@ use Rattle.fcg_grammar.specs.Rows.{rows}
 use Rattle.fcg_partial.specs.declared.fault.RecordFault.{RecordFault}
 use Rattle.fcg_partial.specs.declared.types.Places.{Places}
 use Rattle.fcg_partial.specs.Graph.{StoredMethod, StoredType, ref_uses, field_uses, method_uses, method_targets, type_uses, type_targets}
-use Rattle.fcg_partial.specs.Reading.{Begun, Earlier, ref_at, super_at, field_at, interface_at, site_at, method_at, type_at}
+use Rattle.fcg_partial.specs.Reading.{TablePlace, Earlier, ref_at, super_at, field_at, interface_at, site_at, method_at, type_at}
 use Rattle.fcg_partial.specs.Graph.{StoredSite, StoredField}
 
 -- the marks after these numbers were used
@@ -43,7 +43,7 @@ Passes uses read old new (Err f) = read ≡ Err f
 
 -- ---- rows
 -- the references, and the place after them
-abbrev pub refs_read : List ℕ → ℕ → ℕ → Begun → Result (List (List ℕ) × ℕ) RecordFault
+abbrev pub refs_read : List ℕ → ℕ → ℕ → TablePlace → Result (List (List ℕ) × ℕ) RecordFault
 refs_read bytes names count s = seen (λ x. (x.0, x.1.at)) (rows (ref_at bytes names) count 0 s)
 
 abbrev pub refs_uses : List (List ℕ) → List ℕ
@@ -90,15 +90,15 @@ abbrev pub AreKeys : BTreeSet Key → List (List ℕ) → Type 0
 AreKeys set keys = (k : Key) → tree.contains key_cmp set k ≡ list_any (pointwise nat_eq (k.0 ∷ k.1 ∷ [])) keys
 
 -- the names and the references that are marked
-pub record Marks : Type 0 where
+pub record UsedMarks : Type 0 where
   pub names : List Bool
   pub refs : List Bool
 
-abbrev pub marks_of : List Bool → List Bool → Marks
-marks_of names refs = record { names = names; refs = refs }
+abbrev pub used_marks : List Bool → List Bool → UsedMarks
+used_marks names refs = record { names = names; refs = refs }
 
 -- a method more, read at a place after these many sites, with its marks and its key
-pub record NextMethod (read : Result (StoredMethod × Earlier) RecordFault) (old new : Marks) (after sites : ℕ) (set : BTreeSet Key) : Type 0 where
+pub record NextMethod (read : Result (StoredMethod × Earlier) RecordFault) (old new : UsedMarks) (after sites : ℕ) (set : BTreeSet Key) : Type 0 where
   pub method : StoredMethod
   pub next : Earlier
   pub read_is : read ≡ Ok (method, next)
@@ -108,7 +108,7 @@ pub record NextMethod (read : Result (StoredMethod × Earlier) RecordFault) (old
   pub names : new.names ≡ marked old.names (method_uses method)
   pub refs : new.refs ≡ marked old.refs (method_targets method)
 
-abbrev pub PassesMethod : Result (StoredMethod × Earlier) RecordFault → Marks → Marks → BTreeSet Key → Result (ℕ × ℕ) (ReadError RecordFault) → Type 0
+abbrev pub PassesMethod : Result (StoredMethod × Earlier) RecordFault → UsedMarks → UsedMarks → BTreeSet Key → Result (ℕ × ℕ) (ReadError RecordFault) → Type 0
 PassesMethod read old new set (Ok x) = NextMethod read old new x.0 x.1 set
 PassesMethod read old new set (Err e) = Fails e read
 
@@ -137,7 +137,7 @@ abbrev pub AreMethodPlaces : List ℕ → ℕ → ℕ → List ℕ → List Stor
 AreMethodPlaces bytes names refs places methods = AllZip (ReadAt (method_at bytes names refs) at_state) places methods
 
 -- methods were read, with their marks and their places
-pub record NextMethods (bytes : List ℕ) (n r : ℕ) (read : Result (List StoredMethod × ℕ) RecordFault) (old new : Marks) (after : ℕ) (before now : List ℕ) : Type 0 where
+pub record NextMethods (bytes : List ℕ) (n r : ℕ) (read : Result (List StoredMethod × ℕ) RecordFault) (old new : UsedMarks) (after : ℕ) (before now : List ℕ) : Type 0 where
   pub methods : List StoredMethod
   pub places : List ℕ
   pub read_is : read ≡ Ok (methods, after)
@@ -146,13 +146,13 @@ pub record NextMethods (bytes : List ℕ) (n r : ℕ) (read : Result (List Store
   pub places_are : now ≡ before ++ places
   pub places_read : AreMethodPlaces bytes n r places methods
 
-abbrev pub PassesMethods : List ℕ → ℕ → ℕ → Result (List StoredMethod × ℕ) RecordFault → Marks → Marks → List ℕ → List ℕ → Result ℕ (ReadError RecordFault) → Type 0
+abbrev pub PassesMethods : List ℕ → ℕ → ℕ → Result (List StoredMethod × ℕ) RecordFault → UsedMarks → UsedMarks → List ℕ → List ℕ → Result ℕ (ReadError RecordFault) → Type 0
 PassesMethods bytes n r read old new before now (Ok after) = NextMethods bytes n r read old new after before now
 PassesMethods bytes n r read old new before now (Err e) = Fails e read
 
 -- ---- types
 -- a type was read, with its marks and the places of its methods
-pub record NextType (bytes : List ℕ) (n r : ℕ) (read : Result (StoredType × ℕ) RecordFault) (old new : Marks) (after : ℕ) (before now : List ℕ) : Type 0 where
+pub record NextType (bytes : List ℕ) (n r : ℕ) (read : Result (StoredType × ℕ) RecordFault) (old new : UsedMarks) (after : ℕ) (before now : List ℕ) : Type 0 where
   pub type : StoredType
   pub places : List ℕ
   pub read_is : read ≡ Ok (type, after)
@@ -161,7 +161,7 @@ pub record NextType (bytes : List ℕ) (n r : ℕ) (read : Result (StoredType ×
   pub places_are : now ≡ before ++ places
   pub places_read : AreMethodPlaces bytes n r places type.methods
 
-abbrev pub PassesType : List ℕ → ℕ → ℕ → Result (StoredType × ℕ) RecordFault → Marks → Marks → List ℕ → List ℕ → Result ℕ (ReadError RecordFault) → Type 0
+abbrev pub PassesType : List ℕ → ℕ → ℕ → Result (StoredType × ℕ) RecordFault → UsedMarks → UsedMarks → List ℕ → List ℕ → Result ℕ (ReadError RecordFault) → Type 0
 PassesType bytes n r read old new before now (Ok after) = NextType bytes n r read old new after before now
 PassesType bytes n r read old new before now (Err e) = Fails e read
 
@@ -183,13 +183,13 @@ abbrev pub types_read : List ℕ → ℕ → ℕ → ℕ → ℕ → Result (Lis
 types_read bytes names refs count at = rows (type_at bytes names refs) count 0 at
 
 -- types were read, with their marks and their places
-pub record NextTypes (bytes : List ℕ) (n r : ℕ) (read : Result (List StoredType × ℕ) RecordFault) (old new : Marks) (after : ℕ) (places : Places) : Type 0 where
+pub record NextTypes (bytes : List ℕ) (n r : ℕ) (read : Result (List StoredType × ℕ) RecordFault) (old new : UsedMarks) (after : ℕ) (places : Places) : Type 0 where
   pub types : List StoredType
   pub read_is : read ≡ Ok (types, after)
   pub names : new.names ≡ marked old.names (flat_map type_uses types)
   pub refs : new.refs ≡ marked old.refs (flat_map type_targets types)
   pub places_are : ArePlaces bytes n r places.types.items places.firsts.items places.methods.items types
 
-abbrev pub PassesTypes : List ℕ → ℕ → ℕ → Result (List StoredType × ℕ) RecordFault → Marks → Marks → Result (Places × ℕ) (ReadError RecordFault) → Type 0
+abbrev pub PassesTypes : List ℕ → ℕ → ℕ → Result (List StoredType × ℕ) RecordFault → UsedMarks → UsedMarks → Result (Places × ℕ) (ReadError RecordFault) → Type 0
 PassesTypes bytes n r read old new (Ok x) = NextTypes bytes n r read old new x.1 x.0
 PassesTypes bytes n r read old new (Err e) = Fails e read

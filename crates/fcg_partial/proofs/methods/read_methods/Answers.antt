@@ -4,7 +4,7 @@ use Rattle.std.proofs.lemmas.List.{append-nil, length_push}
 use Rattle.std.proofs.lemmas.Result.{err_from_is_err_and}
 use Rattle.fcg_grammar.proofs.RowLemmas.{rows_fail}
 use Rattle.fcg_partial.specs.Graph.{method_uses, method_targets}
-use Rattle.fcg_partial.specs.Internal.UsedNumbers.{marks_of, earlier, at_state}
+use Rattle.fcg_partial.specs.Internal.UsedNumbers.{used_marks, earlier, at_state}
 use Rattle.fcg_partial.specs.Reading.{Earlier, method_at}
 use Rattle.fcg_partial.proofs.BothRows.{both_begin, both_more, both_names, both_refs}
 use Rattle.fcg_partial.proofs.SeenLaws.{seen_fails, next_is}
@@ -16,7 +16,7 @@ loop-init c =
       before = [];
       keys_are = λ k. (let e = c.new-keys.ensures.empty in search rules);
       places = [];
-      rows = both_begin method_uses method_targets (method_at c.args.bytes.now (length c.args.names.now) (length c.args.refs.now)) at_state c.args.count (earlier c.args.at [] 0) (marks_of c.args.names.now c.args.refs.now);
+      rows = both_begin method_uses method_targets (method_at c.args.bytes.now (length c.args.names.now) (length c.args.refs.now)) at_state c.args.count (earlier c.args.at [] 0) (used_marks c.args.names.now c.args.refs.now);
       places_are = sym (append-nil c.args.places.now.items);
       forward = omega arith;
       many = omega arith;
@@ -43,7 +43,7 @@ loop-preserved c =
       before = given.next.keys;
       keys_are = given.keys_are;
       places = i.places ++ c.loop.place ∷ [];
-      rows = both_more method_uses method_targets read at_state c.args.count (earlier c.args.at [] 0) (marks_of c.args.names.now c.args.refs.now) c.loop.counter (earlier c.loop.place i.before c.loop.sites) (marks_of c.loop.names c.loop.refs) i.places given.method (earlier c.in_ok-after.after given.next.keys c.in_ok-after.more) (marks_of c.read_method.new.names c.read_method.new.refs) c.loop-test.true read_is given.names given.refs i.rows;
+      rows = both_more method_uses method_targets read at_state c.args.count (earlier c.args.at [] 0) (used_marks c.args.names.now c.args.refs.now) c.loop.counter (earlier c.loop.place i.before c.loop.sites) (used_marks c.loop.names c.loop.refs) i.places given.method (earlier c.in_ok-after.after given.next.keys c.in_ok-after.more) (used_marks c.read_method.new.names c.read_method.new.refs) c.loop-test.true read_is given.names given.refs i.rows;
       places_are = c.in_ok-push.ensures.items ∙ ap (λ (l : List ℕ). l ++ c.loop.place ∷ []) i.places_are ∙ append_assoc c.args.places.now.items i.places (c.loop.place ∷ []);
       forward = (let a = i.forward in let b = c.in_ok-after.ensures.inside.0 in omega arith);
       many = (let a = i.many in let b = c.in_ok-after.ensures.inside.0 in let d = ap (λ (l : List ℕ). length l) c.in_ok-push.ensures.items ∙ length_push c.loop.places.items c.loop.place in omega arith);

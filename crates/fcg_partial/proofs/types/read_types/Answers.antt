@@ -2,7 +2,7 @@ use Rattle.std.proofs.Common.{rules, ◌≡◌, length, refl, ◌∙◌, arith}
 use Rattle.std.proofs.lemmas.Result.{err_from_is_err_and}
 use Rattle.fcg_grammar.proofs.RowLemmas.{rows_fail}
 use Rattle.fcg_partial.specs.Graph.{type_uses, type_targets}
-use Rattle.fcg_partial.specs.Internal.UsedNumbers.{marks_of, at_place, at_state, methods_of, ReadAt}
+use Rattle.fcg_partial.specs.Internal.UsedNumbers.{used_marks, at_place, at_state, methods_of, ReadAt}
 use Rattle.fcg_partial.specs.Reading.{method_at, type_at}
 use Rattle.fcg_partial.proofs.BothRows.{both_begin, both_more, both_names, both_refs, zip_append, zip_length}
 use Rattle.fcg_partial.proofs.PlaceLaws.{firsts_push, methods_push}
@@ -12,7 +12,7 @@ pub loop-init : goal.loop-init
 unfolding both_begin
 loop-init c =
     rw (c.in_ok-reserve.ensures.items, c.new-types.ensures.items, c.in_ok-reserve-2.ensures.items, c.new-firsts.ensures.items, c.new-methods.ensures.items) (record {
-      rows = both_begin type_uses type_targets (type_at c.args.bytes.now (length c.args.names.now) (length c.args.refs.now)) at_place c.args.count c.args.at (marks_of c.args.names.now c.args.refs.now);
+      rows = both_begin type_uses type_targets (type_at c.args.bytes.now (length c.args.names.now) (length c.args.refs.now)) at_place c.args.count c.args.at (used_marks c.args.names.now c.args.refs.now);
       firsts_are = refl;
       methods_are = tt;
       many = omega arith;
@@ -38,7 +38,7 @@ loop-preserved c =
     let long : c.len-first.result ≡ length c.loop.methods.items = search rules in
     let first = long ∙ zip_length (ReadAt (method_at c.args.bytes.now n r) at_state) c.loop.methods.items (methods_of i.rows.front) i.methods_are in
     rw (c.in_ok-push.ensures.items, c.in_ok-push-2.ensures.items) (record {
-      rows = both_more type_uses type_targets read at_place c.args.count c.args.at (marks_of c.args.names.now c.args.refs.now) c.loop.counter c.loop.place (marks_of c.loop.names c.loop.refs) c.loop.types.items given.type c.in_ok-after.after (marks_of c.read_type.new.names c.read_type.new.refs) c.loop-test.true given.read_is given.names given.refs i.rows;
+      rows = both_more type_uses type_targets read at_place c.args.count c.args.at (used_marks c.args.names.now c.args.refs.now) c.loop.counter c.loop.place (used_marks c.loop.names c.loop.refs) c.loop.types.items given.type c.in_ok-after.after (used_marks c.read_type.new.names c.read_type.new.refs) c.loop-test.true given.read_is given.names given.refs i.rows;
       firsts_are = firsts_push i.rows.front given.type c.loop.firsts.items c.len-first.result i.firsts_are first;
       methods_are = rw (given.places_are, methods_push i.rows.front given.type) (zip_append (ReadAt (method_at c.args.bytes.now n r) at_state) c.loop.methods.items (methods_of i.rows.front) given.places given.type.methods i.methods_are given.places_read);
       many = (let a = i.many in let b = c.in_ok-after.ensures.few in omega arith);

@@ -1,7 +1,5 @@
 use Rattle.std.proofs.Common.{ℕ, List, sym, subst}
-use Rattle.fcg_partial.specs.Graph.{StoredMethod}
 use Rattle.fcg_partial.specs.Internal.StandingRows.{IsMethodAt}
-use Rattle.fcg_partial.specs.Accessors.{HasMethod}
 use Rattle.fcg_partial.specs.Views.{graph_of}
 use Rattle.fcg_partial.proofs.RowLaws.{has_method, method_below, sites_are}
 use Rattle.fcg_partial.proofs.graph.PartialGraph.method_at.Goals as goal

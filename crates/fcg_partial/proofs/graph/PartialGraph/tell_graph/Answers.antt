@@ -1,8 +1,6 @@
-use Rattle.std.proofs.Common.{◌≡◌, ◌≤◌, ◌<◌, ◌^◌, ℕ, List, length, subst, ◌∙◌, ap, arith}
+use Rattle.std.proofs.Common.{ℕ, List, length, subst, ap, arith}
 use Rattle.std.specs.Prelude.{All}
-use Rattle.fcg_views.specs.declared.view.View.{View}
-use Rattle.fcg_views.specs.Valid.{IsValid, name_count}
-use Rattle.fcg_partial.specs.Views.{text_of}
+use Rattle.fcg_views.specs.Valid.{IsValid}
 use Rattle.fcg_partial.proofs.AccessLaws.{well_formed, text_is}
 use Rattle.fcg_partial.proofs.ViewLaws.{views_back}
 use Rattle.fcg_partial.proofs.ValidLaws.{valid_views}

@@ -38,18 +38,25 @@ fn read_views<S: Source>(alloc: Global, input: &mut S) -> Result<Views, Stop>
 }
 
 // Adds what a listing prints of a bundle's views.
-fn push_listing<W: Sink>(out: &mut TextBuffer, sink: &mut W, listing: Listing, views: &Views)
+fn push_listing<W: Sink>(
+    alloc: Global,
+    out: &mut TextBuffer,
+    sink: &mut W,
+    listing: Listing,
+    views: &Views,
+)
     requires { sites_of_all views.now < 2 ^ 64 }
     ensures { Sends (sink_told (W.taken sink.old) (W.faults sink.old) (W.aside sink.old)) out.old (sink_told (W.taken sink.new) (W.faults sink.new) (W.aside sink.new)) out.new (text_of listing views.now) }
 {
     match listing {
         Listing::List => push_list(out, sink, views),
-        Listing::Sites => push_sites(out, sink, views),
+        Listing::Sites => push_sites(alloc, out, sink, views),
     }
 }
 
 // Writes what a listing prints of a bundle's views, through a buffer in which nothing waits.
 fn write_listing<W: Sink>(
+    alloc: Global,
     sink: &mut W,
     mut out: TextBuffer,
     listing: Listing,
@@ -62,7 +69,7 @@ fn write_listing<W: Sink>(
     ensures later { W.faults sink.old ≤ W.faults sink.new }
     ensures aside { W.aside sink.new ≡ W.aside sink.old }
 {
-    push_listing(&mut out, sink, listing, views);
+    push_listing(alloc, &mut out, sink, listing, views);
     out.finish(sink)
 }
 
@@ -128,7 +135,7 @@ fn print_views<W: Sink, E: Sink>(
     ensures ends { Ends result (record { taken = W.taken output.old; faults = W.faults output.old; aside = W.aside output.old }) (record { taken = W.taken output.new; faults = W.faults output.new; aside = W.aside output.new }) (record { taken = E.taken errors.old; faults = E.faults errors.old; aside = E.aside errors.old }) (record { taken = E.taken errors.new; faults = E.faults errors.new; aside = E.aside errors.new }) }
 {
     match TextBuffer::new(alloc) {
-        Ok(buffer) => match write_listing(output, buffer, listing, views) {
+        Ok(buffer) => match write_listing(alloc, output, buffer, listing, views) {
             Ok(()) => Status::Ok,
             Err(_) => report(alloc, errors, Stop::WriteFailed),
         },

@@ -12,6 +12,7 @@ use fcg_views::{
     Fields, HandleKind, Method, Methods, Name, Names, NoMemory, Ref, Site, SiteKind, Sites, View,
 };
 use std::alloc::{AllocError, AllocFailed, Global};
+use std::mem::replace;
 
 /// Why a text gives no views.
 #[derive(Clone, Copy, Debug, PartialEq, Eq)]
@@ -48,10 +49,12 @@ struct Reading {
 
 // A type with no members below `java/lang/Object`.
 fn new_view(alloc: Global, name: &str, flags: u16) -> Result<View, NoMemory> {
+    let name = Name::from_slice(alloc, name.as_bytes())?;
+    let superclass = Some(Name::from_slice(alloc, b"java/lang/Object")?);
     Ok(View {
-        name: Name::from_slice(alloc, name.as_bytes())?,
+        name,
         flags,
-        superclass: Some(Name::from_slice(alloc, b"java/lang/Object")?),
+        superclass,
         interfaces: Names::from(Vec::new(alloc)),
         fields: Fields::from(Vec::new(alloc)),
         methods: Methods::from(Vec::new(alloc)),
@@ -65,10 +68,9 @@ fn split_method(alloc: Global, word: &str) -> Result<(Name, Name), ShortFormErro
         return Err(ShortFormError::Malformed);
     };
     let (name, desc) = bytes.split_at(at);
-    Ok((
-        Name::from_slice(alloc, name)?,
-        Name::from_slice(alloc, desc)?,
-    ))
+    let name = Name::from_slice(alloc, name)?;
+    let desc = Name::from_slice(alloc, desc)?;
+    Ok((name, desc))
 }
 
 // A method without sites, from `MD`. The word has no owner.
@@ -90,9 +92,10 @@ fn new_target(alloc: Global, kind: SiteKind, word: &str) -> Result<Ref, ShortFor
     let Some((owner, member)) = word.split_once('.') else {
         return Err(ShortFormError::Malformed);
     };
+    let owner = Name::from_slice(alloc, owner.as_bytes())?;
     let (name, desc) = split_method(alloc, member)?;
     Ok(Ref {
-        owner: Name::from_slice(alloc, owner.as_bytes())?,
+        owner,
         owner_is_interface_ref: needs_interface(kind),
         name,
         desc,
@@ -101,11 +104,14 @@ fn new_target(alloc: Global, kind: SiteKind, word: &str) -> Result<Ref, ShortFor
 
 // What a site of `new` names, from `C`.
 fn new_type_target(alloc: Global, word: &str) -> Result<Ref, ShortFormError> {
+    let owner = Name::from_slice(alloc, word.as_bytes())?;
+    let name = Name::from_slice(alloc, b"")?;
+    let desc = Name::from_slice(alloc, b"")?;
     Ok(Ref {
-        owner: Name::from_slice(alloc, word.as_bytes())?,
+        owner,
         owner_is_interface_ref: false,
-        name: Name::from_slice(alloc, b"")?,
-        desc: Name::from_slice(alloc, b"")?,
+        name,
+        desc,
     })
 }
 
@@ -172,80 +178,101 @@ fn type_flags_of(word: &str) -> Option<u16> {
     }
 }
 
-// A view with a method more.
-fn with_method(view: View, method: Method) -> Result<View, ShortFormError> {
-    let mut methods = view.methods.into_vec();
+// Adds a method to a view.
+fn push_method(alloc: Global, view: &mut View, method: Method) -> Result<(), ShortFormError> {
+    let mut methods = replace(&mut view.methods, Methods::from(Vec::new(alloc))).into_vec();
     methods.push(method)?;
-    Ok(View {
-        methods: Methods::from(methods),
-        ..view
-    })
+    view.methods = Methods::from(methods);
+    Ok(())
 }
 
-// A view with an interface more.
-fn with_interface(view: View, name: Name) -> Result<View, ShortFormError> {
-    let mut interfaces = view.interfaces.into_vec();
+// Adds an interface to a view.
+fn push_interface(alloc: Global, view: &mut View, name: Name) -> Result<(), ShortFormError> {
+    let mut interfaces = replace(&mut view.interfaces, Names::from(Vec::new(alloc))).into_vec();
     interfaces.push(name)?;
-    Ok(View {
-        interfaces: Names::from(interfaces),
-        ..view
-    })
+    view.interfaces = Names::from(interfaces);
+    Ok(())
 }
 
-// A method with a site more, from the site's two words.
-fn with_site(
-    alloc: Global,
-    method: Method,
-    word: &str,
-    named: &str,
-) -> Result<Method, ShortFormError> {
-    let kind = kind_of(word).ok_or(ShortFormError::Malformed)?;
-    let target = match kind {
-        SiteKind::New => new_type_target(alloc, named)?,
-        _ => new_target(alloc, kind, named)?,
-    };
-    let mut sites = method.sites.into_vec();
-    let pc = place_after(&sites, kind).ok_or(ShortFormError::Malformed)?;
-    sites.push(Site { pc, kind, target })?;
-    Ok(Method {
-        sites: Sites::from(sites),
-        ..method
-    })
-}
-
-// A view whose last method has a site more.
-fn with_last_site(
-    alloc: Global,
-    view: View,
-    word: &str,
-    named: &str,
-) -> Result<View, ShortFormError> {
-    let mut methods = view.methods.into_vec();
-    let method = methods.pop().ok_or(ShortFormError::Malformed)?;
-    methods.push(with_site(alloc, method, word, named)?)?;
-    Ok(View {
-        methods: Methods::from(methods),
-        ..view
-    })
-}
-
-// A view with what two words outside of brackets add to it.
-fn with_words(alloc: Global, view: View, word: &str, named: &str) -> Result<View, ShortFormError> {
-    if let Some(flags) = method_flags_of(word) {
-        return with_method(view, new_method(alloc, named, flags)?);
+// What a site of a kind names.
+fn target_of(alloc: Global, kind: SiteKind, named: &str) -> Result<Ref, ShortFormError> {
+    match kind {
+        SiteKind::New => new_type_target(alloc, named),
+        _ => new_target(alloc, kind, named),
     }
-    let name = Name::from_slice(alloc, named.as_bytes())?;
+}
+
+// The site after others, from its two words.
+fn site_after(
+    alloc: Global,
+    sites: &[Site],
+    word: &str,
+    named: &str,
+) -> Result<Site, ShortFormError> {
+    let kind = kind_of(word).ok_or(ShortFormError::Malformed)?;
+    let pc = place_after(sites, kind).ok_or(ShortFormError::Malformed)?;
+    let target = target_of(alloc, kind, named)?;
+    Ok(Site { pc, kind, target })
+}
+
+// Adds a site to a method, from the site's two words.
+fn push_site(
+    alloc: Global,
+    method: &mut Method,
+    word: &str,
+    named: &str,
+) -> Result<(), ShortFormError> {
+    let site = site_after(alloc, method.sites.as_slice(), word, named)?;
+    let mut sites = replace(&mut method.sites, Sites::from(Vec::new(alloc))).into_vec();
+    sites.push(site)?;
+    method.sites = Sites::from(sites);
+    Ok(())
+}
+
+// Adds a site to the last method of a view.
+fn push_last_site(
+    alloc: Global,
+    view: &mut View,
+    word: &str,
+    named: &str,
+) -> Result<(), ShortFormError> {
+    let mut methods = replace(&mut view.methods, Methods::from(Vec::new(alloc))).into_vec();
+    match methods.last_mut() {
+        Some(method) => push_site(alloc, method, word, named)?,
+        None => return Err(ShortFormError::Malformed),
+    }
+    view.methods = Methods::from(methods);
+    Ok(())
+}
+
+// Adds a superclass or an interface to a view, or takes its superclass away.
+fn set_types(
+    alloc: Global,
+    view: &mut View,
+    word: &str,
+    named: &str,
+) -> Result<(), ShortFormError> {
     match word {
-        "extends" => Ok(View {
-            superclass: Some(name),
-            ..view
-        }),
-        "without" if named == "superclass" => Ok(View {
-            superclass: None,
-            ..view
-        }),
-        "implements" => with_interface(view, name),
-        _ => Err(ShortFormError::Malformed),
+        "extends" => view.superclass = Some(Name::from_slice(alloc, named.as_bytes())?),
+        "without" if named == "superclass" => view.superclass = None,
+        "implements" => {
+            push_interface(alloc, view, Name::from_slice(alloc, named.as_bytes())?)?;
+        }
+        _ => return Err(ShortFormError::Malformed),
+    }
+    Ok(())
+}
+
+// Adds to a view what two words outside of brackets say.
+fn add_words(
+    alloc: Global,
+    view: &mut View,
+    word: &str,
+    named: &str,
+) -> Result<(), ShortFormError> {
+    match method_flags_of(word) {
+        Some(flags) => push_method(alloc, view, new_method(alloc, named, flags)?),
+        None => set_types(alloc, view, word, named),
     }
 }
 
@@ -258,14 +285,12 @@ impl Reading {
             self.views.push(new_view(alloc, named, flags)?)?;
             return Ok(());
         }
-        let view = self.views.pop().ok_or(ShortFormError::Malformed)?;
-        let more = if self.is_in_code {
-            with_last_site(alloc, view, word, named)?
-        } else {
-            with_words(alloc, view, word, named)?
-        };
-        self.views.push(more)?;
-        Ok(())
+        let is_in_code = self.is_in_code;
+        match self.views.last_mut() {
+            Some(view) if is_in_code => push_last_site(alloc, view, word, named),
+            Some(view) => add_words(alloc, view, word, named),
+            None => Err(ShortFormError::Malformed),
+        }
     }
 
     // Takes a bracket, where one of its kind may stand.

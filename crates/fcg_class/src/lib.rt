@@ -11,4 +11,4 @@ mod path;
 pub use bundle::{BundleFault, BundleRule, read_bundle};
 pub use fcg_reader::read_class;
 pub use laws::{bundles_have_few_names, one_bundle_verdict, packed_bundles_read};
-pub use packing::{PackRefusal, pack};
+pub use packing::{BUNDLE_LIMIT, PackRefusal, pack};

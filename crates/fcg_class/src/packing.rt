@@ -15,8 +15,8 @@ use fcg_bytes::{Failed, Files, FilesRefusal, Sink, write_whole};
 use fcg_views::{Bytes, Paths};
 use std::alloc::{AllocError, AllocFailed, Global};
 
-// The length of the longest bundle.
-const BUNDLE_LIMIT: usize = 67_108_864;
+/// The length in bytes of the longest bundle.
+pub const BUNDLE_LIMIT: usize = 67_108_864;
 
 /// Why a folder wasn't packed. `Absent` is tried before `TooLong`, and this before `BadPath`; the others can come before
 /// any of them, but `WriteFailed` only after all.

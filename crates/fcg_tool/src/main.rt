@@ -2,12 +2,13 @@
 #![tactic(auto)]
 
 use fcg_bytes::{HostFiles, StdSink, StdSource};
-use fcg_top::run;
+use fcg_top::{run, tell_no_memory};
+use std::io::ErrorKind;
 use std::process::ExitCode;
 use std::{env, io};
 
 // Makes the real objects and runs the command. Words that can't be read, such as one that isn't UTF-8, are those of
-// no command.
+// no command; where there is no memory for them nothing is run.
 fn main(rt: HostRuntime) -> ExitCode {
     let mut input = StdSource::new(rt.stdin());
     let mut output = StdSink::new(rt.stdout());
@@ -15,6 +16,9 @@ fn main(rt: HostRuntime) -> ExitCode {
     let mut files = HostFiles::new(&rt);
     let words = match words(&rt) {
         Ok(words) => words,
+        Err(error) if error.kind() == ErrorKind::OutOfMemory => {
+            return ExitCode::from(tell_no_memory(&mut errors).code());
+        }
         Err(_) => Vec::new(rt.alloc()),
     };
     let status = run(

@@ -1,3 +1,4 @@
+pub mod Buffered
+pub mod FewSites
 pub mod Meanings
-pub mod SiteLines
 pub mod PackLines

@@ -9,8 +9,9 @@ use Rattle.fcg_class.specs.declared.packing.PackRefusal.TheVariants as packs
 use Rattle.fcg_top.specs.declared.status.Stop.TheVariants as stops
 use Rattle.fcg_top.specs.declared.status.Refusal.{Refusal}
 use Rattle.fcg_top.specs.declared.status.Status.{Status}
-use Rattle.fcg_top.specs.Answer.{Tells, IsStatusOf, answer_of_pack, pack_answer, errors_of, stop_line}
-use Rattle.fcg_top.specs.Internal.Stopped.{stop_of_pack}
+use Rattle.fcg_top.specs.Answer.{Tells, errors_of}
+use Rattle.fcg_top.specs.Packing.{answer_of_pack, pack_answer}
+use Rattle.fcg_top.specs.Internal.Stopped.{IsStatusOf, stop_line, stop_of_pack}
 
 -- the line of a refusal, or that there was no memory for it
 refused_line : (refusal : Refusal) (status : Status) (answer : Result (List ℕ) Refusal) → answer ≡ Err refusal → IsStatusOf (stops.Refused refusal) status → stop_line status (stops.Refused refusal) ≡ errors_of status answer

@@ -1,6 +1,10 @@
 pub mod Words
 pub mod Status
+pub mod Objects
 pub mod Text
 pub mod Refused
 pub mod Answer
+pub mod Listing
+pub mod Packing
+pub mod Runs
 pub mod Internal

@@ -1,54 +1,96 @@
 //! The commands, from the bytes in to the bytes out.
-ghost use Rattle.std.specs.Prelude.{◌≡◌, ◌≢◌, ◌↔◌, ◌≤◌, map, string_bytes, None, IfSome, IfOk, IsErrOf};
-ghost use Rattle.std.specs.Io.KnownBytes.{Keeps};
+ghost use Rattle.std.specs.Prelude.{◌≡◌, ◌≢◌, ◌↔◌, ◌≤◌, ◌<◌, ◌^◌, codes, map, string_bytes, None, IfSome, IfOk, OnOk, OnErr, IsErrOf};
+ghost use Rattle.std.specs.Io.KnownBytes.{Appends};
 ghost use Rattle.fcg_bytes.specs.Causes.{Rose};
-ghost use Rattle.fcg_class.specs.Pack.{ArePacked};
+ghost use Rattle.fcg_views.specs.Valid.{sites_of_all};
 ghost use Rattle.fcg_top.specs.Words.{command_of};
-ghost use Rattle.fcg_top.specs.Answer.{text_of, answer, listing_answer, pack_answer, IsMeant, IsStatusOf, Leaves, LeavesBundle, LeavesPack, Makes, Means, MeansFor, Reading, Tells, UnlessPrints, errors_of, stop_line};
+ghost use Rattle.fcg_top.specs.Text.{line};
+ghost use Rattle.fcg_top.specs.Answer.{Ends, GainsFront, Leaves, Tells, errors_of};
+ghost use Rattle.fcg_top.specs.Listing.{LeavesListing, bundle_answer, text_of};
+ghost use Rattle.fcg_top.specs.Packing.{LeavesPack};
+ghost use Rattle.fcg_top.specs.Runs.{LeavesOf};
+ghost use Rattle.fcg_top.specs.Internal.Buffered.{IsFresh, Sends, sink_told};
+ghost use Rattle.fcg_top.specs.Internal.Stopped.{IsMeant, IsStatusOf, Reads, stop_line};
 
 use crate::refusal::print_refusal;
 use crate::status::{Status, Stop};
-use crate::text::{print_list, print_sites};
+use crate::text::{push_list, push_sites};
+use crate::text_buffer::TextBuffer;
 use crate::words::{Command, Listing, parse_words};
-use fcg_bytes::{Files, Sink, Source, read_all, write_whole};
-use fcg_class::{pack, read_bundle};
-use fcg_views::{Bytes, NoMemory, Views};
+use fcg_bytes::{Failed, Files, Sink, Source, read_all, write_whole};
+use fcg_class::{BUNDLE_LIMIT, pack, read_bundle};
+use fcg_views::Views;
 use std::alloc::Global;
 
-const BUNDLE_LIMIT: usize = 67_108_864;
-
-// What a listing prints of a bundle's views.
-fn print_views(alloc: Global, listing: Listing, views: &Views) -> Result<Bytes, NoMemory>
-    ensures { IfOk result (λ text. text ≡ text_of listing views.now) }
-{
-    match listing {
-        Listing::List => print_list(alloc, views),
-        Listing::Sites => print_sites(alloc, views),
-    }
-}
-
-// What a listing prints for the input.
-#[tactic(auto, unfolding(crate::specs::Answer::listing_answer))]
-fn list_input<S: Source>(alloc: Global, listing: Listing, input: &mut S) -> Result<Bytes, Stop>
-    ensures answer { IfSome (S.left input.old) (λ bytes. Makes (λ text. text) result (listing_answer listing bytes)) }
-    ensures means { IfSome (S.left input.old) (λ bytes. IsMeant listing bytes result) }
+// What the input is as a bundle.
+#[tactic(auto, unfolding(crate::specs::Listing::bundle_answer))]
+fn read_views<S: Source>(alloc: Global, input: &mut S) -> Result<Views, Stop>
+    ensures answer { IfSome (S.left input.old) (λ bytes. Reads result (bundle_answer bytes)) }
+    ensures means { IfSome (S.left input.old) (λ bytes. IsMeant bytes result) }
+    ensures few { IfOk result (λ views. sites_of_all views < 2 ^ 64) }
     ensures unwritten { ¬ IsErrOf result Stop.WriteFailed }
     ensures failed { IsErrOf result Stop.ReadFailed → Rose (S.faults input.old) (S.faults input.new) }
     ensures later { S.faults input.old ≤ S.faults input.new }
     ensures aside { S.aside input.new ≡ S.aside input.old }
 {
     let bytes = read_all(alloc, input, BUNDLE_LIMIT)?;
-    let views = read_bundle(alloc, bytes.as_slice())?;
-    Ok(print_views(alloc, listing, &views)?)
+    Ok(read_bundle(alloc, bytes.as_slice())?)
+}
+
+// Adds what a listing prints of a bundle's views.
+fn push_listing<W: Sink>(
+    alloc: Global,
+    out: &mut TextBuffer,
+    sink: &mut W,
+    listing: Listing,
+    views: &Views,
+)
+    requires { sites_of_all views.now < 2 ^ 64 }
+    ensures { Sends (sink_told (W.taken sink.old) (W.faults sink.old) (W.aside sink.old)) out.old (sink_told (W.taken sink.new) (W.faults sink.new) (W.aside sink.new)) out.new (text_of listing views.now) }
+{
+    match listing {
+        Listing::List => push_list(out, sink, views),
+        Listing::Sites => push_sites(alloc, out, sink, views),
+    }
+}
+
+// Writes what a listing prints of a bundle's views, through a buffer in which nothing waits.
+fn write_listing<W: Sink>(
+    alloc: Global,
+    sink: &mut W,
+    mut out: TextBuffer,
+    listing: Listing,
+    views: &Views,
+) -> Result<(), Failed>
+    requires few { sites_of_all views.now < 2 ^ 64 }
+    requires fresh { IsFresh out }
+    ensures ok { OnOk result (Appends (W.taken sink.old) (W.taken sink.new) (text_of listing views.now)) }
+    ensures failed { OnErr result (GainsFront (W.taken sink.old) (W.taken sink.new) (text_of listing views.now) × Rose (W.faults sink.old) (W.faults sink.new)) }
+    ensures later { W.faults sink.old ≤ W.faults sink.new }
+    ensures aside { W.aside sink.new ≡ W.aside sink.old }
+{
+    push_listing(alloc, &mut out, sink, listing, views);
+    out.finish(sink)
 }
 
 // Writes a line on the errors, as far as they take it.
-fn tell<E: Sink>(errors: &mut E, line: &[u8])
-    ensures line { Tells (E.faults errors.old) (E.faults errors.new) (E.taken errors.old) (E.taken errors.new) line.now }
+fn tell<E: Sink>(errors: &mut E, text: &[u8])
+    ensures line { Tells (E.faults errors.old) (E.faults errors.new) (E.taken errors.old) (E.taken errors.new) text.now }
     ensures later { E.faults errors.old ≤ E.faults errors.new }
     ensures aside { E.aside errors.new ≡ E.aside errors.old }
 {
-    let _ = write_whole(errors, line);
+    let _ = write_whole(errors, text);
+}
+
+/// Tells on the errors that there was no memory, and says the status of that.
+pub fn tell_no_memory<E: Sink>(errors: &mut E) -> Status
+    ensures status { result ≡ Status.NoMemory }
+    ensures line { Tells (E.faults errors.old) (E.faults errors.new) (E.taken errors.old) (E.taken errors.new) (line (codes "no memory")) }
+    ensures later { E.faults errors.old ≤ E.faults errors.new }
+    ensures aside { E.aside errors.new ≡ E.aside errors.old }
+{
+    tell(errors, b"no memory\n");
+    Status::NoMemory
 }
 
 // Tells on the errors why a command stopped, and says its status.
@@ -64,10 +106,7 @@ fn report<E: Sink>(alloc: Global, errors: &mut E, stop: Stop) -> Status
                 tell(errors, line.as_slice());
                 Status::Refused
             }
-            Err(_) => {
-                tell(errors, b"no memory\n");
-                Status::NoMemory
-            }
+            Err(_) => tell_no_memory(errors),
         },
         Stop::ReadFailed => {
             tell(errors, b"read failed\n");
@@ -77,10 +116,30 @@ fn report<E: Sink>(alloc: Global, errors: &mut E, stop: Stop) -> Status
             tell(errors, b"write failed\n");
             Status::WriteFailed
         }
-        Stop::NoMemory => {
-            tell(errors, b"no memory\n");
-            Status::NoMemory
-        }
+        Stop::NoMemory => tell_no_memory(errors),
+    }
+}
+
+// Prints a listing of a bundle's views.
+fn print_views<W: Sink, E: Sink>(
+    alloc: Global,
+    listing: Listing,
+    views: &Views,
+    output: &mut W,
+    errors: &mut E,
+) -> Status
+    requires { sites_of_all views.now < 2 ^ 64 }
+    ensures status { (result ≢ Status.Words) × (result ≢ Status.ReadFailed) × (result ≢ Status.Refused) }
+    ensures output { Leaves result (Ok (text_of listing views.now)) (W.taken output.old) (W.taken output.new) }
+    ensures errors { Tells (E.faults errors.old) (E.faults errors.new) (E.taken errors.old) (E.taken errors.new) (errors_of result (Ok (text_of listing views.now))) }
+    ensures ends { Ends result (record { taken = W.taken output.old; faults = W.faults output.old; aside = W.aside output.old }) (record { taken = W.taken output.new; faults = W.faults output.new; aside = W.aside output.new }) (record { taken = E.taken errors.old; faults = E.faults errors.old; aside = E.aside errors.old }) (record { taken = E.taken errors.new; faults = E.faults errors.new; aside = E.aside errors.new }) }
+{
+    match TextBuffer::new(alloc) {
+        Ok(buffer) => match write_listing(alloc, output, buffer, listing, views) {
+            Ok(()) => Status::Ok,
+            Err(_) => report(alloc, errors, Stop::WriteFailed),
+        },
+        Err(_) => report(alloc, errors, Stop::NoMemory),
     }
 }
 
@@ -92,27 +151,17 @@ fn run_listing<S: Source, W: Sink, E: Sink>(
     output: &mut W,
     errors: &mut E,
 ) -> Status
-    ensures words { result ≢ Status.Words }
-    ensures output { IfSome (S.left input.old) (λ bytes. Leaves result (listing_answer listing bytes) (W.taken output.old) (W.taken output.new)) }
-    ensures means { IfSome (S.left input.old) (λ bytes. MeansFor result listing bytes (listing_answer listing bytes)) }
-    ensures silent { result ≢ Status.Ok → result ≢ Status.WriteFailed → Keeps (W.taken output.old) (W.taken output.new) }
-    ensures errors { IfSome (S.left input.old) (λ bytes. Tells (E.faults errors.old) (E.faults errors.new) (E.taken errors.old) (E.taken errors.new) (errors_of result (listing_answer listing bytes))) }
-    ensures read_failed { result ≡ Status.ReadFailed → Rose (S.faults input.old) (S.faults input.new) }
-    ensures write_failed { result ≡ Status.WriteFailed → Rose (W.faults output.old) (W.faults output.new) }
-    ensures later { (S.faults input.old ≤ S.faults input.new) × (W.faults output.old ≤ W.faults output.new) × (E.faults errors.old ≤ E.faults errors.new) }
-    ensures aside { (S.aside input.new ≡ S.aside input.old) × (W.aside output.new ≡ W.aside output.old) × (E.aside errors.new ≡ E.aside errors.old) }
+    ensures leaves { LeavesListing listing result (record { left = S.left input.old; faults = S.faults input.old; aside = S.aside input.old }) (record { left = S.left input.new; faults = S.faults input.new; aside = S.aside input.new }) (record { taken = W.taken output.old; faults = W.faults output.old; aside = W.aside output.old }) (record { taken = W.taken output.new; faults = W.faults output.new; aside = W.aside output.new }) (record { taken = E.taken errors.old; faults = E.faults errors.old; aside = E.aside errors.old }) (record { taken = E.taken errors.new; faults = E.faults errors.new; aside = E.aside errors.new }) }
+    ensures ends { Ends result (record { taken = W.taken output.old; faults = W.faults output.old; aside = W.aside output.old }) (record { taken = W.taken output.new; faults = W.faults output.new; aside = W.aside output.new }) (record { taken = E.taken errors.old; faults = E.faults errors.old; aside = E.aside errors.old }) (record { taken = E.taken errors.new; faults = E.faults errors.new; aside = E.aside errors.new }) }
 {
-    match list_input(alloc, listing, input) {
-        Ok(text) => match write_whole(output, text.as_slice()) {
-            Ok(()) => Status::Ok,
-            Err(_) => report(alloc, errors, Stop::WriteFailed),
-        },
+    match read_views(alloc, input) {
+        Ok(views) => print_views(alloc, listing, &views, output, errors),
         Err(stop) => report(alloc, errors, stop),
     }
 }
 
 // Writes the bundle of a folder.
-#[tactic(auto, unfolding(crate::specs::Answer::pack_answer))]
+#[tactic(auto, unfolding(crate::specs::Packing::pack_answer))]
 fn run_pack<F: Files, W: Sink, E: Sink>(
     alloc: Global,
     folder: &str,
@@ -120,16 +169,8 @@ fn run_pack<F: Files, W: Sink, E: Sink>(
     output: &mut W,
     errors: &mut E,
 ) -> Status
-    ensures words { result ≢ Status.Words }
-    ensures output { IfSome (F.told files.old) (λ told. Leaves result (pack_answer folder.now told) (W.taken output.old) (W.taken output.new)) }
-    ensures bundle { LeavesBundle result (ArePacked (F.told files.old) folder.now) (W.taken output.old) (W.taken output.new) }
-    ensures silent { result ≢ Status.Ok → result ≢ Status.WriteFailed → Keeps (W.taken output.old) (W.taken output.new) }
-    ensures errors { IfSome (F.told files.old) (λ told. Tells (E.faults errors.old) (E.faults errors.new) (E.taken errors.old) (E.taken errors.new) (errors_of result (pack_answer folder.now told))) }
-    ensures read_failed { result ≡ Status.ReadFailed → Rose (F.faults files.old) (F.faults files.new) }
-    ensures write_failed { result ≡ Status.WriteFailed → Rose (W.faults output.old) (W.faults output.new) }
-    ensures later { (F.faults files.old ≤ F.faults files.new) × (W.faults output.old ≤ W.faults output.new) × (E.faults errors.old ≤ E.faults errors.new) }
-    ensures told { F.told files.new ≡ F.told files.old }
-    ensures aside { (W.aside output.new ≡ W.aside output.old) × (E.aside errors.new ≡ E.aside errors.old) }
+    ensures leaves { LeavesPack folder.now result (record { told = F.told files.old; faults = F.faults files.old }) (record { told = F.told files.new; faults = F.faults files.new }) (record { taken = W.taken output.old; faults = W.faults output.old; aside = W.aside output.old }) (record { taken = W.taken output.new; faults = W.faults output.new; aside = W.aside output.new }) (record { taken = E.taken errors.old; faults = E.faults errors.old; aside = E.aside errors.old }) (record { taken = E.taken errors.new; faults = E.faults errors.new; aside = E.aside errors.new }) }
+    ensures ends { Ends result (record { taken = W.taken output.old; faults = W.faults output.old; aside = W.aside output.old }) (record { taken = W.taken output.new; faults = W.faults output.new; aside = W.aside output.new }) (record { taken = E.taken errors.old; faults = E.faults errors.old; aside = E.aside errors.old }) (record { taken = E.taken errors.new; faults = E.faults errors.new; aside = E.aside errors.new }) }
 {
     match pack(alloc, files, folder, output) {
         Ok(_) => Status::Ok,
@@ -147,35 +188,15 @@ pub fn run<S: Source, W: Sink, E: Sink, F: Files>(
     errors: &mut E,
     files: &mut F,
 ) -> Status
-    // The words decide first. No input is read but for a listing.
+    // The words decide first.
     ensures words { (result ≡ Status.Words) ↔ (command_of (map string_bytes words.now) ≡ None) }
-    ensures unread { UnlessPrints (command_of (map string_bytes words.now)) (Keeps (S.left input.old) (S.left input.new)) }
 
-    // What the output gained is the answer to the bytes of the input, or to the files.
-    ensures output { IfSome (answer (command_of (map string_bytes words.now)) (S.left input.old) (F.told files.old)) (λ answer.
-        Leaves result answer (W.taken output.old) (W.taken output.new)) }
-
-    // That answer is right: what is printed is the command's text of the bundle that the input is, and a refusal has its
-    // cause in the input.
-    ensures means { Means result (command_of (map string_bytes words.now)) (S.left input.old) }
-
-    // What a folder is packed as is a bundle of its class files, whatever the files tell.
-    ensures bundle { LeavesPack result (command_of (map string_bytes words.now)) (F.told files.old) (W.taken output.old) (W.taken output.new) }
+    // The output gains the answer of the command that the words give, and the errors its line; each refusal and failure
+    // has its cause, want of memory apart; and what the command doesn't use is left alone.
+    ensures leaves { LeavesOf (command_of (map string_bytes words.now)) result (record { left = S.left input.old; faults = S.faults input.old; aside = S.aside input.old }) (record { left = S.left input.new; faults = S.faults input.new; aside = S.aside input.new }) (record { taken = W.taken output.old; faults = W.faults output.old; aside = W.aside output.old }) (record { taken = W.taken output.new; faults = W.faults output.new; aside = W.aside output.new }) (record { taken = E.taken errors.old; faults = E.faults errors.old; aside = E.aside errors.old }) (record { taken = E.taken errors.new; faults = E.faults errors.new; aside = E.aside errors.new }) (record { told = F.told files.old; faults = F.faults files.old }) (record { told = F.told files.new; faults = F.faults files.new }) }
 
     // Nothing else is written, whatever the input and the files tell.
-    ensures silent { result ≢ Status.Ok → result ≢ Status.WriteFailed → Keeps (W.taken output.old) (W.taken output.new) }
-
-    // What the errors gained is the line of the status, or of the refusal.
-    ensures errors { IfSome (answer (command_of (map string_bytes words.now)) (S.left input.old) (F.told files.old)) (λ answer.
-        Tells (E.faults errors.old) (E.faults errors.new) (E.taken errors.old) (E.taken errors.new) (errors_of result answer)) }
-
-    // Each fault has its cause. Want of memory alone is free.
-    ensures read_failed { result ≡ Status.ReadFailed → Reading (command_of (map string_bytes words.now)) (Rose (S.faults input.old) (S.faults input.new)) (Rose (F.faults files.old) (F.faults files.new)) }
-    ensures write_failed { result ≡ Status.WriteFailed → Rose (W.faults output.old) (W.faults output.new) }
-
-    ensures later { (S.faults input.old ≤ S.faults input.new) × (W.faults output.old ≤ W.faults output.new) × (E.faults errors.old ≤ E.faults errors.new) × (F.faults files.old ≤ F.faults files.new) }
-    ensures told { F.told files.new ≡ F.told files.old }
-    ensures aside { (S.aside input.new ≡ S.aside input.old) × (W.aside output.new ≡ W.aside output.old) × (E.aside errors.new ≡ E.aside errors.old) }
+    ensures ends { Ends result (record { taken = W.taken output.old; faults = W.faults output.old; aside = W.aside output.old }) (record { taken = W.taken output.new; faults = W.faults output.new; aside = W.aside output.new }) (record { taken = E.taken errors.old; faults = E.faults errors.old; aside = E.aside errors.old }) (record { taken = E.taken errors.new; faults = E.faults errors.new; aside = E.aside errors.new }) }
 {
     match parse_words(words) {
         Some(Command::Print(listing)) => run_listing(alloc, listing, input, output, errors),

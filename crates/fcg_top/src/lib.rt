@@ -7,7 +7,8 @@ mod command;
 mod refusal;
 mod status;
 mod text;
+mod text_buffer;
 mod words;
 
-pub use command::run;
+pub use command::{run, tell_no_memory};
 pub use status::Status;

@@ -2,7 +2,11 @@
 #![tactic(auto)]
 
 #[cfg(test)]
+mod bundles;
+#[cfg(test)]
 mod class_files;
+#[cfg(test)]
+mod kinds;
 #[cfg(test)]
 mod packs;
 #[cfg(test)]

@@ -3,137 +3,12 @@
 ghost use Rattle.std.specs.Prelude.{None};
 ghost use Rattle.fcg_bytes.specs.Objects.{aside_of_none};
 
+use crate::bundles::{CALLS, CALLS_ITSELF, LAMBDA, METHODS, SMALLEST};
 use fcg_bytes::{Failed, MemoryFiles, MemorySink, MemorySource, Sink};
 use fcg_top::{Status, run};
 use fcg_views::NoMemory;
 use std::alloc::{AllocError, Global};
 use std::test::Fail;
-
-/// The bundle of the smallest class file, an interface `I`.
-pub const SMALLEST: [u8; 76] = [
-    0x46, 0x43, 0x47, 0x42, 0x00, 0x01, 0x00, 0x00, 0x00, 0x01, 0x00, 0x07, 0x49, 0x2e, 0x63, 0x6c,
-    0x61, 0x73, 0x73, 0x00, 0x00, 0x00, 0x35, 0xca, 0xfe, 0xba, 0xbe, 0x00, 0x00, 0x00, 0x41, 0x00,
-    0x05, 0x01, 0x00, 0x01, 0x49, 0x07, 0x00, 0x01, 0x01, 0x00, 0x10, 0x6a, 0x61, 0x76, 0x61, 0x2f,
-    0x6c, 0x61, 0x6e, 0x67, 0x2f, 0x4f, 0x62, 0x6a, 0x65, 0x63, 0x74, 0x07, 0x00, 0x03, 0x06, 0x01,
-    0x00, 0x02, 0x00, 0x04, 0x00, 0x00, 0x00, 0x00, 0x00, 0x00, 0x00, 0x00,
-];
-
-// A bundle of an interface `p/Q` with two methods, attributes and a signature, as `javac` makes it.
-const METHODS: [u8; 337] = [
-    0x46, 0x43, 0x47, 0x42, 0x00, 0x01, 0x00, 0x00, 0x00, 0x01, 0x00, 0x09, 0x70, 0x2f, 0x51, 0x2e,
-    0x63, 0x6c, 0x61, 0x73, 0x73, 0x00, 0x00, 0x01, 0x38, 0xca, 0xfe, 0xba, 0xbe, 0x00, 0x00, 0x00,
-    0x3d, 0x00, 0x11, 0x07, 0x00, 0x02, 0x01, 0x00, 0x03, 0x70, 0x2f, 0x51, 0x07, 0x00, 0x04, 0x01,
-    0x00, 0x10, 0x6a, 0x61, 0x76, 0x61, 0x2f, 0x6c, 0x61, 0x6e, 0x67, 0x2f, 0x4f, 0x62, 0x6a, 0x65,
-    0x63, 0x74, 0x01, 0x00, 0x02, 0x67, 0x6f, 0x01, 0x00, 0x29, 0x28, 0x49, 0x5b, 0x4a, 0x4c, 0x6a,
-    0x61, 0x76, 0x61, 0x2f, 0x6c, 0x61, 0x6e, 0x67, 0x2f, 0x53, 0x74, 0x72, 0x69, 0x6e, 0x67, 0x3b,
-    0x29, 0x4c, 0x6a, 0x61, 0x76, 0x61, 0x2f, 0x6c, 0x61, 0x6e, 0x67, 0x2f, 0x4f, 0x62, 0x6a, 0x65,
-    0x63, 0x74, 0x3b, 0x01, 0x00, 0x0a, 0x45, 0x78, 0x63, 0x65, 0x70, 0x74, 0x69, 0x6f, 0x6e, 0x73,
-    0x07, 0x00, 0x09, 0x01, 0x00, 0x13, 0x6a, 0x61, 0x76, 0x61, 0x2f, 0x6c, 0x61, 0x6e, 0x67, 0x2f,
-    0x45, 0x78, 0x63, 0x65, 0x70, 0x74, 0x69, 0x6f, 0x6e, 0x01, 0x00, 0x09, 0x53, 0x69, 0x67, 0x6e,
-    0x61, 0x74, 0x75, 0x72, 0x65, 0x01, 0x00, 0x1a, 0x28, 0x49, 0x5b, 0x4a, 0x4c, 0x6a, 0x61, 0x76,
-    0x61, 0x2f, 0x6c, 0x61, 0x6e, 0x67, 0x2f, 0x53, 0x74, 0x72, 0x69, 0x6e, 0x67, 0x3b, 0x29, 0x54,
-    0x54, 0x3b, 0x01, 0x00, 0x05, 0xc3, 0xa9, 0x74, 0xc3, 0xa9, 0x01, 0x00, 0x03, 0x28, 0x29, 0x56,
-    0x01, 0x00, 0x28, 0x3c, 0x54, 0x3a, 0x4c, 0x6a, 0x61, 0x76, 0x61, 0x2f, 0x6c, 0x61, 0x6e, 0x67,
-    0x2f, 0x4f, 0x62, 0x6a, 0x65, 0x63, 0x74, 0x3b, 0x3e, 0x4c, 0x6a, 0x61, 0x76, 0x61, 0x2f, 0x6c,
-    0x61, 0x6e, 0x67, 0x2f, 0x4f, 0x62, 0x6a, 0x65, 0x63, 0x74, 0x3b, 0x01, 0x00, 0x0a, 0x53, 0x6f,
-    0x75, 0x72, 0x63, 0x65, 0x46, 0x69, 0x6c, 0x65, 0x01, 0x00, 0x06, 0x51, 0x2e, 0x6a, 0x61, 0x76,
-    0x61, 0x06, 0x01, 0x00, 0x01, 0x00, 0x03, 0x00, 0x00, 0x00, 0x00, 0x00, 0x02, 0x04, 0x01, 0x00,
-    0x05, 0x00, 0x06, 0x00, 0x02, 0x00, 0x07, 0x00, 0x00, 0x00, 0x04, 0x00, 0x01, 0x00, 0x08, 0x00,
-    0x0a, 0x00, 0x00, 0x00, 0x02, 0x00, 0x0b, 0x04, 0x01, 0x00, 0x0c, 0x00, 0x0d, 0x00, 0x00, 0x00,
-    0x02, 0x00, 0x0a, 0x00, 0x00, 0x00, 0x02, 0x00, 0x0e, 0x00, 0x0f, 0x00, 0x00, 0x00, 0x02, 0x00,
-    0x10,
-];
-
-// A bundle of a type `p/A` whose one method calls itself.
-const CALLS_ITSELF: [u8; 115] = [
-    0x46, 0x43, 0x47, 0x42, 0x00, 0x01, 0x00, 0x00, 0x00, 0x01, 0x00, 0x09, 0x70, 0x2f, 0x41, 0x2e,
-    0x63, 0x6c, 0x61, 0x73, 0x73, 0x00, 0x00, 0x00, 0x5a, 0xca, 0xfe, 0xba, 0xbe, 0x00, 0x00, 0x00,
-    0x41, 0x00, 0x08, 0x01, 0x00, 0x03, 0x70, 0x2f, 0x41, 0x07, 0x00, 0x01, 0x01, 0x00, 0x01, 0x6d,
-    0x01, 0x00, 0x03, 0x28, 0x29, 0x56, 0x0c, 0x00, 0x03, 0x00, 0x04, 0x0a, 0x00, 0x02, 0x00, 0x05,
-    0x01, 0x00, 0x04, 0x43, 0x6f, 0x64, 0x65, 0x00, 0x21, 0x00, 0x02, 0x00, 0x00, 0x00, 0x00, 0x00,
-    0x00, 0x00, 0x01, 0x00, 0x09, 0x00, 0x03, 0x00, 0x04, 0x00, 0x01, 0x00, 0x07, 0x00, 0x00, 0x00,
-    0x10, 0xff, 0xff, 0xff, 0xff, 0x00, 0x00, 0x00, 0x04, 0xb8, 0x00, 0x06, 0xb1, 0x00, 0x00, 0x00,
-    0x00, 0x00, 0x00,
-];
-
-// A bundle of a type `p/Calls`, as `javac` makes it: its methods call by each instruction that calls, two of them after a
-// `switch`. What they call, and where, is as `javap -c -p -s` prints it.
-const CALLS: [u8; 776] = [
-    0x46, 0x43, 0x47, 0x42, 0x00, 0x01, 0x00, 0x00, 0x00, 0x01, 0x00, 0x0d, 0x70, 0x2f, 0x43, 0x61,
-    0x6c, 0x6c, 0x73, 0x2e, 0x63, 0x6c, 0x61, 0x73, 0x73, 0x00, 0x00, 0x02, 0xeb, 0xca, 0xfe, 0xba,
-    0xbe, 0x00, 0x00, 0x00, 0x3d, 0x00, 0x34, 0x0a, 0x00, 0x02, 0x00, 0x03, 0x07, 0x00, 0x04, 0x0c,
-    0x00, 0x05, 0x00, 0x06, 0x01, 0x00, 0x10, 0x6a, 0x61, 0x76, 0x61, 0x2f, 0x6c, 0x61, 0x6e, 0x67,
-    0x2f, 0x4f, 0x62, 0x6a, 0x65, 0x63, 0x74, 0x01, 0x00, 0x06, 0x3c, 0x69, 0x6e, 0x69, 0x74, 0x3e,
-    0x01, 0x00, 0x03, 0x28, 0x29, 0x56, 0x0a, 0x00, 0x02, 0x00, 0x08, 0x0c, 0x00, 0x09, 0x00, 0x0a,
-    0x01, 0x00, 0x08, 0x74, 0x6f, 0x53, 0x74, 0x72, 0x69, 0x6e, 0x67, 0x01, 0x00, 0x14, 0x28, 0x29,
-    0x4c, 0x6a, 0x61, 0x76, 0x61, 0x2f, 0x6c, 0x61, 0x6e, 0x67, 0x2f, 0x53, 0x74, 0x72, 0x69, 0x6e,
-    0x67, 0x3b, 0x0b, 0x00, 0x0c, 0x00, 0x0d, 0x07, 0x00, 0x0e, 0x0c, 0x00, 0x0f, 0x00, 0x10, 0x01,
-    0x00, 0x16, 0x6a, 0x61, 0x76, 0x61, 0x2f, 0x6c, 0x61, 0x6e, 0x67, 0x2f, 0x43, 0x68, 0x61, 0x72,
-    0x53, 0x65, 0x71, 0x75, 0x65, 0x6e, 0x63, 0x65, 0x01, 0x00, 0x06, 0x6c, 0x65, 0x6e, 0x67, 0x74,
-    0x68, 0x01, 0x00, 0x03, 0x28, 0x29, 0x49, 0x0a, 0x00, 0x12, 0x00, 0x13, 0x07, 0x00, 0x14, 0x0c,
-    0x00, 0x15, 0x00, 0x16, 0x01, 0x00, 0x0e, 0x6a, 0x61, 0x76, 0x61, 0x2f, 0x6c, 0x61, 0x6e, 0x67,
-    0x2f, 0x4d, 0x61, 0x74, 0x68, 0x01, 0x00, 0x03, 0x61, 0x62, 0x73, 0x01, 0x00, 0x04, 0x28, 0x49,
-    0x29, 0x49, 0x0b, 0x00, 0x0c, 0x00, 0x08, 0x0a, 0x00, 0x19, 0x00, 0x0d, 0x07, 0x00, 0x1a, 0x01,
-    0x00, 0x10, 0x6a, 0x61, 0x76, 0x61, 0x2f, 0x6c, 0x61, 0x6e, 0x67, 0x2f, 0x53, 0x74, 0x72, 0x69,
-    0x6e, 0x67, 0x0a, 0x00, 0x1c, 0x00, 0x1d, 0x07, 0x00, 0x1e, 0x0c, 0x00, 0x1f, 0x00, 0x16, 0x01,
-    0x00, 0x07, 0x70, 0x2f, 0x43, 0x61, 0x6c, 0x6c, 0x73, 0x01, 0x00, 0x06, 0x73, 0x70, 0x61, 0x72,
-    0x73, 0x65, 0x0a, 0x00, 0x12, 0x00, 0x21, 0x0c, 0x00, 0x22, 0x00, 0x23, 0x01, 0x00, 0x03, 0x6d,
-    0x61, 0x78, 0x01, 0x00, 0x05, 0x28, 0x49, 0x49, 0x29, 0x49, 0x0a, 0x00, 0x25, 0x00, 0x26, 0x07,
-    0x00, 0x27, 0x0c, 0x00, 0x28, 0x00, 0x16, 0x01, 0x00, 0x11, 0x6a, 0x61, 0x76, 0x61, 0x2f, 0x6c,
-    0x61, 0x6e, 0x67, 0x2f, 0x49, 0x6e, 0x74, 0x65, 0x67, 0x65, 0x72, 0x01, 0x00, 0x08, 0x62, 0x69,
-    0x74, 0x43, 0x6f, 0x75, 0x6e, 0x74, 0x0a, 0x00, 0x1c, 0x00, 0x2a, 0x0c, 0x00, 0x2b, 0x00, 0x2c,
-    0x01, 0x00, 0x05, 0x64, 0x65, 0x6e, 0x73, 0x65, 0x01, 0x00, 0x1c, 0x28, 0x49, 0x4c, 0x6a, 0x61,
-    0x76, 0x61, 0x2f, 0x6c, 0x61, 0x6e, 0x67, 0x2f, 0x43, 0x68, 0x61, 0x72, 0x53, 0x65, 0x71, 0x75,
-    0x65, 0x6e, 0x63, 0x65, 0x3b, 0x29, 0x49, 0x0a, 0x00, 0x02, 0x00, 0x2e, 0x0c, 0x00, 0x2f, 0x00,
-    0x10, 0x01, 0x00, 0x08, 0x68, 0x61, 0x73, 0x68, 0x43, 0x6f, 0x64, 0x65, 0x01, 0x00, 0x04, 0x43,
-    0x6f, 0x64, 0x65, 0x01, 0x00, 0x0d, 0x53, 0x74, 0x61, 0x63, 0x6b, 0x4d, 0x61, 0x70, 0x54, 0x61,
-    0x62, 0x6c, 0x65, 0x01, 0x00, 0x05, 0x74, 0x77, 0x69, 0x63, 0x65, 0x01, 0x00, 0x0c, 0x28, 0x4c,
-    0x70, 0x2f, 0x43, 0x61, 0x6c, 0x6c, 0x73, 0x3b, 0x29, 0x49, 0x00, 0x20, 0x00, 0x1c, 0x00, 0x02,
-    0x00, 0x00, 0x00, 0x00, 0x00, 0x05, 0x00, 0x00, 0x00, 0x05, 0x00, 0x06, 0x00, 0x01, 0x00, 0x30,
-    0x00, 0x00, 0x00, 0x11, 0x00, 0x01, 0x00, 0x01, 0x00, 0x00, 0x00, 0x05, 0x2a, 0xb7, 0x00, 0x01,
-    0xb1, 0x00, 0x00, 0x00, 0x00, 0x00, 0x01, 0x00, 0x09, 0x00, 0x0a, 0x00, 0x01, 0x00, 0x30, 0x00,
-    0x00, 0x00, 0x11, 0x00, 0x01, 0x00, 0x01, 0x00, 0x00, 0x00, 0x05, 0x2a, 0xb7, 0x00, 0x07, 0xb0,
-    0x00, 0x00, 0x00, 0x00, 0x00, 0x08, 0x00, 0x2b, 0x00, 0x2c, 0x00, 0x01, 0x00, 0x30, 0x00, 0x00,
-    0x00, 0x4f, 0x00, 0x01, 0x00, 0x02, 0x00, 0x00, 0x00, 0x37, 0x1a, 0xaa, 0x00, 0x00, 0x00, 0x00,
-    0x00, 0x31, 0x00, 0x00, 0x00, 0x00, 0x00, 0x00, 0x00, 0x02, 0x00, 0x00, 0x00, 0x1b, 0x00, 0x00,
-    0x00, 0x22, 0x00, 0x00, 0x00, 0x27, 0x2b, 0xb9, 0x00, 0x0b, 0x01, 0x00, 0xac, 0x1a, 0xb8, 0x00,
-    0x11, 0xac, 0x2b, 0xb9, 0x00, 0x17, 0x01, 0x00, 0xb6, 0x00, 0x18, 0xac, 0x1a, 0xb8, 0x00, 0x1b,
-    0xac, 0x00, 0x00, 0x00, 0x01, 0x00, 0x31, 0x00, 0x00, 0x00, 0x06, 0x00, 0x04, 0x1c, 0x06, 0x04,
-    0x09, 0x00, 0x08, 0x00, 0x1f, 0x00, 0x16, 0x00, 0x01, 0x00, 0x30, 0x00, 0x00, 0x00, 0x53, 0x00,
-    0x02, 0x00, 0x01, 0x00, 0x00, 0x00, 0x3b, 0x1a, 0x04, 0x60, 0x3b, 0x1a, 0xab, 0x00, 0x00, 0x00,
-    0x00, 0x00, 0x34, 0x00, 0x00, 0x00, 0x03, 0xff, 0xff, 0xfc, 0x18, 0x00, 0x00, 0x00, 0x23, 0x00,
-    0x00, 0x00, 0x07, 0x00, 0x00, 0x00, 0x29, 0x00, 0x01, 0x86, 0xa0, 0x00, 0x00, 0x00, 0x2e, 0x1a,
-    0x06, 0xb8, 0x00, 0x20, 0xac, 0x1a, 0xb8, 0x00, 0x24, 0xac, 0x1a, 0x01, 0xb8, 0x00, 0x29, 0xac,
-    0x03, 0xac, 0x00, 0x00, 0x00, 0x01, 0x00, 0x31, 0x00, 0x00, 0x00, 0x06, 0x00, 0x04, 0x28, 0x05,
-    0x04, 0x05, 0x00, 0x00, 0x00, 0x32, 0x00, 0x33, 0x00, 0x01, 0x00, 0x30, 0x00, 0x00, 0x00, 0x16,
-    0x00, 0x02, 0x00, 0x02, 0x00, 0x00, 0x00, 0x0a, 0x2b, 0xb6, 0x00, 0x2d, 0x2a, 0xb6, 0x00, 0x2d,
-    0x60, 0xac, 0x00, 0x00, 0x00, 0x00, 0x00, 0x00,
-];
-
-// A bundle of a type `p/L` whose method `main` has an `invokedynamic`: its bootstrap method has a handle of the factory of
-// lambdas, and the arguments are a MethodType, a handle of `lambda$main$0`, and the MethodType again.
-const LAMBDA: [u8; 317] = [
-    0x46, 0x43, 0x47, 0x42, 0x00, 0x01, 0x00, 0x00, 0x00, 0x01, 0x00, 0x09, 0x70, 0x2f, 0x4c, 0x2e,
-    0x63, 0x6c, 0x61, 0x73, 0x73, 0x00, 0x00, 0x01, 0x24, 0xca, 0xfe, 0xba, 0xbe, 0x00, 0x00, 0x00,
-    0x41, 0x00, 0x16, 0x01, 0x00, 0x03, 0x70, 0x2f, 0x4c, 0x07, 0x00, 0x01, 0x01, 0x00, 0x03, 0x28,
-    0x29, 0x56, 0x01, 0x00, 0x04, 0x6d, 0x61, 0x69, 0x6e, 0x01, 0x00, 0x0d, 0x6c, 0x61, 0x6d, 0x62,
-    0x64, 0x61, 0x24, 0x6d, 0x61, 0x69, 0x6e, 0x24, 0x30, 0x01, 0x00, 0x04, 0x43, 0x6f, 0x64, 0x65,
-    0x01, 0x00, 0x10, 0x42, 0x6f, 0x6f, 0x74, 0x73, 0x74, 0x72, 0x61, 0x70, 0x4d, 0x65, 0x74, 0x68,
-    0x6f, 0x64, 0x73, 0x01, 0x00, 0x22, 0x6a, 0x61, 0x76, 0x61, 0x2f, 0x6c, 0x61, 0x6e, 0x67, 0x2f,
-    0x69, 0x6e, 0x76, 0x6f, 0x6b, 0x65, 0x2f, 0x4c, 0x61, 0x6d, 0x62, 0x64, 0x61, 0x4d, 0x65, 0x74,
-    0x61, 0x66, 0x61, 0x63, 0x74, 0x6f, 0x72, 0x79, 0x07, 0x00, 0x08, 0x01, 0x00, 0x0b, 0x6d, 0x65,
-    0x74, 0x61, 0x66, 0x61, 0x63, 0x74, 0x6f, 0x72, 0x79, 0x0c, 0x00, 0x0a, 0x00, 0x03, 0x0a, 0x00,
-    0x09, 0x00, 0x0b, 0x0f, 0x06, 0x00, 0x0c, 0x0c, 0x00, 0x05, 0x00, 0x03, 0x0a, 0x00, 0x02, 0x00,
-    0x0e, 0x0f, 0x06, 0x00, 0x0f, 0x10, 0x00, 0x03, 0x01, 0x00, 0x03, 0x72, 0x75, 0x6e, 0x01, 0x00,
-    0x16, 0x28, 0x29, 0x4c, 0x6a, 0x61, 0x76, 0x61, 0x2f, 0x6c, 0x61, 0x6e, 0x67, 0x2f, 0x52, 0x75,
-    0x6e, 0x6e, 0x61, 0x62, 0x6c, 0x65, 0x3b, 0x0c, 0x00, 0x12, 0x00, 0x13, 0x12, 0x00, 0x00, 0x00,
-    0x14, 0x00, 0x21, 0x00, 0x02, 0x00, 0x00, 0x00, 0x00, 0x00, 0x00, 0x00, 0x02, 0x00, 0x09, 0x00,
-    0x04, 0x00, 0x03, 0x00, 0x01, 0x00, 0x06, 0x00, 0x00, 0x00, 0x13, 0x00, 0x01, 0x00, 0x00, 0x00,
-    0x00, 0x00, 0x07, 0xba, 0x00, 0x15, 0x00, 0x00, 0x57, 0xb1, 0x00, 0x00, 0x00, 0x00, 0x10, 0x0a,
-    0x00, 0x05, 0x00, 0x03, 0x00, 0x01, 0x00, 0x06, 0x00, 0x00, 0x00, 0x0d, 0x00, 0x01, 0x00, 0x00,
-    0x00, 0x00, 0x00, 0x01, 0xb1, 0x00, 0x00, 0x00, 0x00, 0x00, 0x01, 0x00, 0x07, 0x00, 0x00, 0x00,
-    0x0c, 0x00, 0x01, 0x00, 0x0d, 0x00, 0x03, 0x00, 0x11, 0x00, 0x10, 0x00, 0x11,
-];
 
 /// What a run over memory left.
 #[derive(Drop)]
@@ -141,6 +16,13 @@ pub struct Outcome {
     pub status: Status,
     pub output: MemorySink,
     pub errors: MemorySink,
+}
+
+impl Outcome {
+    /// Whether it ended with this status and left these bytes on the output, and these on the errors.
+    pub fn is(&self, status: Status, output: &[u8], errors: &[u8]) -> bool {
+        self.status == status && self.output.bytes() == output && self.errors.bytes() == errors
+    }
 }
 
 // A sink that takes five bytes a call at most, and fails at the call with this number.
@@ -180,6 +62,42 @@ fn words(alloc: Global, line: &str) -> Result<Vec<String>, AllocError> {
     Ok(words)
 }
 
+// A source in pieces of ten bytes, where the reads with these numbers fail.
+fn source_of(alloc: Global, bytes: &[u8], fail: &[u64]) -> Result<MemorySource, AllocError> {
+    Ok(MemorySource::new(bytes.to_vec(alloc)?, 10, fail.to_vec(alloc)?))
+}
+
+/// An outcome of nothing yet, with room for so many bytes on the output, whose call with a number fails.
+pub fn outcome_of(alloc: Global, room: usize, fail: &[u64]) -> Result<Outcome, NoMemory> {
+    let output = MemorySink::new(alloc, room, fail.to_vec(alloc)?)?;
+    let errors = MemorySink::new(alloc, 1000, Vec::new(alloc))?;
+    Ok(Outcome {
+        status: Status::Words,
+        output,
+        errors,
+    })
+}
+
+// Runs words over a source.
+fn run_source(
+    alloc: Global,
+    line: &str,
+    input: &mut MemorySource,
+    outcome: &mut Outcome,
+) -> Result<(), AllocError> {
+    let words = words(alloc, line)?;
+    let mut files = MemoryFiles::new(Vec::new(alloc), Vec::new(alloc));
+    outcome.status = run(
+        alloc,
+        &words,
+        input,
+        &mut outcome.output,
+        &mut outcome.errors,
+        &mut files,
+    );
+    Ok(())
+}
+
 /// Runs words over bytes in pieces of ten, where the reads with these numbers fail.
 pub fn run_over(
     alloc: Global,
@@ -187,178 +105,160 @@ pub fn run_over(
     bytes: &[u8],
     fail: &[u64],
 ) -> Result<Outcome, NoMemory> {
-    let words = words(alloc, line)?;
-    let mut input = MemorySource::new(bytes.to_vec(alloc)?, 10, fail.to_vec(alloc)?);
-    let mut output = MemorySink::new(alloc, 1000, Vec::new(alloc))?;
-    let mut errors = MemorySink::new(alloc, 1000, Vec::new(alloc))?;
-    let mut files = MemoryFiles::new(Vec::new(alloc), Vec::new(alloc));
-    let status = run(
-        alloc,
-        &words,
-        &mut input,
-        &mut output,
-        &mut errors,
-        &mut files,
-    );
-    Ok(Outcome {
-        status,
-        output,
-        errors,
-    })
+    let mut input = source_of(alloc, bytes, fail)?;
+    let mut outcome = outcome_of(alloc, 2000, &[])?;
+    run_source(alloc, line, &mut input, &mut outcome)?;
+    Ok(outcome)
 }
+
+// The words, the input, and then the status, the output and the errors.
+const RUNS: &[(&str, &[u8], Status, &str, &str)] = &[
+    (
+        "list",
+        SMALLEST,
+        Status::Ok,
+        "type I\ntypes 1 methods 0\n",
+        "",
+    ),
+    (
+        "list",
+        METHODS,
+        Status::Ok,
+        "type p/Q\nmethod go(I[JLjava/lang/String;)Ljava/lang/Object;\nmethod %C3%A9t%C3%A9()V\ntypes 1 methods 2\n",
+        "",
+    ),
+    (
+        "list",
+        b"FCGB\x00\x01\x00\x00\x00\x00",
+        Status::Ok,
+        "types 0 methods 0\n",
+        "",
+    ),
+    (
+        "list",
+        b"FCG",
+        Status::Refused,
+        "",
+        "{\"entry\":0,\"fault\":\"BadBundle\",\"offset\":0,\"rule\":\"Cut\"}\n",
+    ),
+    (
+        "list",
+        b"FCGB\x00\x01\xff\xff\xff\xff",
+        Status::Refused,
+        "",
+        "{\"entry\":0,\"fault\":\"BadBundle\",\"offset\":10,\"rule\":\"Cut\"}\n",
+    ),
+    (
+        "list",
+        b"PK\x03\x04",
+        Status::Refused,
+        "",
+        "{\"fault\":\"Jar\"}\n",
+    ),
+    ("sites", SMALLEST, Status::Ok, "sites 0\n", ""),
+    ("sites", METHODS, Status::Ok, "sites 0\n", ""),
+    (
+        "sites",
+        b"FCGB\x00\x01\x00\x00\x00\x00",
+        Status::Ok,
+        "sites 0\n",
+        "",
+    ),
+    (
+        "sites",
+        b"FCG",
+        Status::Refused,
+        "",
+        "{\"entry\":0,\"fault\":\"BadBundle\",\"offset\":0,\"rule\":\"Cut\"}\n",
+    ),
+    (
+        "sites",
+        b"PK\x03\x04",
+        Status::Refused,
+        "",
+        "{\"fault\":\"Jar\"}\n",
+    ),
+    ("", SMALLEST, Status::Words, "", "words\n"),
+    ("site", SMALLEST, Status::Words, "", "words\n"),
+    ("list x", SMALLEST, Status::Words, "", "words\n"),
+    ("sites x", SMALLEST, Status::Words, "", "words\n"),
+    ("pack", SMALLEST, Status::Words, "", "words\n"),
+    ("pack ", SMALLEST, Status::Words, "", "words\n"),
+    ("pack -d", SMALLEST, Status::Words, "", "words\n"),
+    ("pack d e", SMALLEST, Status::Words, "", "words\n"),
+];
 
 #[test]
 fn prints_or_refuses(rt: HostRuntime) -> Result<(), Fail> {
-    let cases = [
-        (
-            "list",
-            SMALLEST.as_slice(),
-            Status::Ok,
-            "type I\ntypes 1 methods 0\n",
-            "",
-        ),
-        (
-            "list",
-            METHODS.as_slice(),
-            Status::Ok,
-            "type p/Q\nmethod go(I[JLjava/lang/String;)Ljava/lang/Object;\nmethod %C3%A9t%C3%A9()V\ntypes 1 methods 2\n",
-            "",
-        ),
-        (
-            "list",
-            b"FCGB\x00\x01\x00\x00\x00\x00".as_slice(),
-            Status::Ok,
-            "types 0 methods 0\n",
-            "",
-        ),
-        (
-            "list",
-            b"FCG".as_slice(),
-            Status::Refused,
-            "",
-            "{\"entry\":0,\"fault\":\"BadBundle\",\"offset\":0,\"rule\":\"Cut\"}\n",
-        ),
-        (
-            "list",
-            b"FCGB\x00\x01\xff\xff\xff\xff".as_slice(),
-            Status::Refused,
-            "",
-            "{\"entry\":0,\"fault\":\"BadBundle\",\"offset\":10,\"rule\":\"Cut\"}\n",
-        ),
-        (
-            "list",
-            b"PK\x03\x04".as_slice(),
-            Status::Refused,
-            "",
-            "{\"fault\":\"Jar\"}\n",
-        ),
-        ("sites", SMALLEST.as_slice(), Status::Ok, "sites 0\n", ""),
-        ("sites", METHODS.as_slice(), Status::Ok, "sites 0\n", ""),
-        (
-            "sites",
-            b"FCGB\x00\x01\x00\x00\x00\x00".as_slice(),
-            Status::Ok,
-            "sites 0\n",
-            "",
-        ),
-        (
-            "sites",
-            b"FCG".as_slice(),
-            Status::Refused,
-            "",
-            "{\"entry\":0,\"fault\":\"BadBundle\",\"offset\":0,\"rule\":\"Cut\"}\n",
-        ),
-        (
-            "sites",
-            b"PK\x03\x04".as_slice(),
-            Status::Refused,
-            "",
-            "{\"fault\":\"Jar\"}\n",
-        ),
-        ("", SMALLEST.as_slice(), Status::Words, "", "words\n"),
-        ("site", SMALLEST.as_slice(), Status::Words, "", "words\n"),
-        ("list x", SMALLEST.as_slice(), Status::Words, "", "words\n"),
-        ("sites x", SMALLEST.as_slice(), Status::Words, "", "words\n"),
-        ("pack", SMALLEST.as_slice(), Status::Words, "", "words\n"),
-        ("pack ", SMALLEST.as_slice(), Status::Words, "", "words\n"),
-        ("pack -d", SMALLEST.as_slice(), Status::Words, "", "words\n"),
-        (
-            "pack d e",
-            SMALLEST.as_slice(),
-            Status::Words,
-            "",
-            "words\n",
-        ),
-    ];
-    for (line, bytes, status, output, errors) in cases {
+    for (line, bytes, status, output, errors) in RUNS {
         let outcome = run_over(rt.alloc(), line, bytes, &[])?;
-        assert_eq!(rt; outcome.status, status, "{line}");
-        assert_eq!(rt; outcome.output.bytes(), output.as_bytes(), "{line}");
-        assert_eq!(rt; outcome.errors.bytes(), errors.as_bytes(), "{line}");
+        assert!(rt;
+            outcome.is(*status, output.as_bytes(), errors.as_bytes()),
+            "{line}"
+        );
     }
     Ok(())
 }
+
+const LISTED: &[(&str, &[u8], &str)] = &[
+    (
+        "list",
+        CALLS_ITSELF,
+        "type p/A\nmethod m()V\ntypes 1 methods 1\n",
+    ),
+    (
+        "sites",
+        CALLS_ITSELF,
+        "site p/A.m()V 0 static p/A.m()V\nsites 1\n",
+    ),
+    (
+        "sites",
+        LAMBDA,
+        concat!(
+            "site p/L.main()V 0 handle6 java/lang/invoke/LambdaMetafactory.metafactory()V\n",
+            "site p/L.main()V 0 handle6 p/L.lambda$main$0()V\n",
+            "sites 2\n",
+        ),
+    ),
+    (
+        "sites",
+        CALLS,
+        concat!(
+            "site p/Calls.%3Cinit%3E()V 1 special java/lang/Object.%3Cinit%3E()V\n",
+            "site p/Calls.toString()Ljava/lang/String; 1 special java/lang/Object.toString()Ljava/lang/String;\n",
+            "site p/Calls.dense(ILjava/lang/CharSequence;)I 29 interface java/lang/CharSequence.length()I\n",
+            "site p/Calls.dense(ILjava/lang/CharSequence;)I 36 static java/lang/Math.abs(I)I\n",
+            "site p/Calls.dense(ILjava/lang/CharSequence;)I 41 interface java/lang/CharSequence.toString()Ljava/lang/String;\n",
+            "site p/Calls.dense(ILjava/lang/CharSequence;)I 46 virtual java/lang/String.length()I\n",
+            "site p/Calls.dense(ILjava/lang/CharSequence;)I 51 static p/Calls.sparse(I)I\n",
+            "site p/Calls.sparse(I)I 42 static java/lang/Math.max(II)I\n",
+            "site p/Calls.sparse(I)I 47 static java/lang/Integer.bitCount(I)I\n",
+            "site p/Calls.sparse(I)I 53 static p/Calls.dense(ILjava/lang/CharSequence;)I\n",
+            "site p/Calls.twice(Lp/Calls;)I 1 virtual java/lang/Object.hashCode()I\n",
+            "site p/Calls.twice(Lp/Calls;)I 5 virtual java/lang/Object.hashCode()I\n",
+            "sites 12\n",
+        ),
+    ),
+];
 
 #[test]
 fn prints_the_calls_of_code(rt: HostRuntime) -> Result<(), Fail> {
-    let cases = [
-        (
-            "list",
-            CALLS_ITSELF.as_slice(),
-            "type p/A\nmethod m()V\ntypes 1 methods 1\n",
-        ),
-        (
-            "sites",
-            CALLS_ITSELF.as_slice(),
-            "site p/A.m()V 0 static p/A.m()V\nsites 1\n",
-        ),
-        (
-            "sites",
-            LAMBDA.as_slice(),
-            concat!(
-                "site p/L.main()V 0 handle6 java/lang/invoke/LambdaMetafactory.metafactory()V\n",
-                "site p/L.main()V 0 handle6 p/L.lambda$main$0()V\n",
-                "sites 2\n",
-            ),
-        ),
-        (
-            "sites",
-            CALLS.as_slice(),
-            concat!(
-                "site p/Calls.%3Cinit%3E()V 1 special java/lang/Object.%3Cinit%3E()V\n",
-                "site p/Calls.toString()Ljava/lang/String; 1 special java/lang/Object.toString()Ljava/lang/String;\n",
-                "site p/Calls.dense(ILjava/lang/CharSequence;)I 29 interface java/lang/CharSequence.length()I\n",
-                "site p/Calls.dense(ILjava/lang/CharSequence;)I 36 static java/lang/Math.abs(I)I\n",
-                "site p/Calls.dense(ILjava/lang/CharSequence;)I 41 interface java/lang/CharSequence.toString()Ljava/lang/String;\n",
-                "site p/Calls.dense(ILjava/lang/CharSequence;)I 46 virtual java/lang/String.length()I\n",
-                "site p/Calls.dense(ILjava/lang/CharSequence;)I 51 static p/Calls.sparse(I)I\n",
-                "site p/Calls.sparse(I)I 42 static java/lang/Math.max(II)I\n",
-                "site p/Calls.sparse(I)I 47 static java/lang/Integer.bitCount(I)I\n",
-                "site p/Calls.sparse(I)I 53 static p/Calls.dense(ILjava/lang/CharSequence;)I\n",
-                "site p/Calls.twice(Lp/Calls;)I 1 virtual java/lang/Object.hashCode()I\n",
-                "site p/Calls.twice(Lp/Calls;)I 5 virtual java/lang/Object.hashCode()I\n",
-                "sites 12\n",
-            ),
-        ),
-    ];
-    for (line, bytes, output) in cases {
+    for (line, bytes, output) in LISTED {
         let outcome = run_over(rt.alloc(), line, bytes, &[])?;
-        assert_eq!(rt; outcome.errors.bytes(), b"".as_slice(), "{line}");
-        assert_eq!(rt; outcome.status, Status::Ok, "{line}");
-        assert_eq!(rt; outcome.output.bytes(), output.as_bytes(), "{line}");
+        assert!(rt; outcome.is(Status::Ok, output.as_bytes(), b""), "{line}");
     }
     Ok(())
 }
 
-// The front of a bundle of so many entries.
-fn begin_bundle(alloc: Global, count: u8) -> Result<Vec<u8>, Fail> {
+/// The front of a bundle of so many entries.
+pub fn begin_bundle(alloc: Global, count: u8) -> Result<Vec<u8>, AllocError> {
     let mut bytes = b"FCGB\x00\x01\x00\x00\x00".to_vec(alloc)?;
     bytes.push(count)?;
     Ok(bytes)
 }
 
-// An entry more.
-fn push_entry(bytes: &mut Vec<u8>, path: &[u8], body: &[u8]) -> Result<(), Fail> {
+/// An entry more.
+pub fn push_entry(bytes: &mut Vec<u8>, path: &[u8], body: &[u8]) -> Result<(), Fail> {
     bytes.extend_from_slice(&u16::try_from(path.len())?.to_be_bytes())?;
     bytes.extend_from_slice(path)?;
     bytes.extend_from_slice(&u32::try_from(body.len())?.to_be_bytes())?;
@@ -366,165 +266,171 @@ fn push_entry(bytes: &mut Vec<u8>, path: &[u8], body: &[u8]) -> Result<(), Fail>
     Ok(())
 }
 
-// A bundle of the smallest class file at a path.
-fn bundle_at(alloc: Global, path: &[u8]) -> Result<Vec<u8>, Fail> {
-    let mut bytes = begin_bundle(alloc, 1)?;
-    push_entry(&mut bytes, path, &SMALLEST[23..])?;
+// A bundle of the smallest class file at each of these paths.
+fn bundle_at(alloc: Global, paths: &[&[u8]]) -> Result<Vec<u8>, Fail> {
+    let mut bytes = begin_bundle(alloc, u8::try_from(paths.len())?)?;
+    for path in paths {
+        push_entry(&mut bytes, path, &SMALLEST[23..])?;
+    }
+    Ok(bytes)
+}
+
+// Whether `list` refuses a bundle with this line.
+fn is_refused(alloc: Global, bytes: &[u8], line: &[u8]) -> Result<bool, NoMemory> {
+    let outcome = run_over(alloc, "list", bytes, &[])?;
+    Ok(outcome.is(Status::Refused, b"", line))
+}
+
+const AT_LENGTH: &[u8] = b"{\"entry\":0,\"fault\":\"BadBundle\",\"offset\":10,\"rule\":\"Path\"}\n";
+
+// The paths of the entries, and the line on the errors.
+const PATHS: &[(&[&[u8]], &[u8])] = &[
+    (
+        &[b"a/../I.class"],
+        b"{\"entry\":0,\"fault\":\"BadBundle\",\"offset\":12,\"rule\":\"Path\"}\n",
+    ),
+    (
+        &[b"\x7f.class"],
+        b"{\"entry\":0,\"fault\":\"BadBundle\",\"offset\":12,\"rule\":\"Path\"}\n",
+    ),
+    (&[b""], AT_LENGTH),
+    (
+        &[b"I.class", b"I.class"],
+        b"{\"entry\":1,\"fault\":\"BadBundle\",\"offset\":78,\"rule\":\"Path\"}\n",
+    ),
+];
+
+#[test]
+fn refuses_paths(rt: HostRuntime) -> Result<(), Fail> {
+    for (paths, line) in PATHS {
+        let bytes = bundle_at(rt.alloc(), paths)?;
+        assert!(rt; is_refused(rt.alloc(), &bytes, line)?);
+    }
+    let long = vec![in rt.alloc(); b'a'; 1025]?;
+    let bytes = bundle_at(rt.alloc(), &[long.as_slice()])?;
+    assert!(rt; is_refused(rt.alloc(), &bytes, AT_LENGTH)?);
+    Ok(())
+}
+
+// A bundle of a text, the smallest class file, and the same for later versions of the platform.
+fn with_others(alloc: Global) -> Result<Vec<u8>, Fail> {
+    let mut bytes = begin_bundle(alloc, 3)?;
+    push_entry(&mut bytes, b"a.txt", b"no class file")?;
+    push_entry(&mut bytes, b"I.class", &SMALLEST[23..])?;
+    push_entry(&mut bytes, b"META-INF/versions/9/I.class", &SMALLEST[23..])?;
     Ok(bytes)
 }
 
 #[test]
-fn refuses_paths(rt: HostRuntime) -> Result<(), Fail> {
-    let at_length = "{\"entry\":0,\"fault\":\"BadBundle\",\"offset\":10,\"rule\":\"Path\"}\n";
-    let at_path = "{\"entry\":0,\"fault\":\"BadBundle\",\"offset\":12,\"rule\":\"Path\"}\n";
-    for path in [b"a/../I.class".as_slice(), b"\x7f.class".as_slice()] {
-        let bytes = bundle_at(rt.alloc(), path)?;
-        let outcome = run_over(rt.alloc(), "list", &bytes, &[])?;
-        assert_eq!(rt; outcome.status, Status::Refused);
-        assert_eq!(rt; outcome.errors.bytes(), at_path.as_bytes());
-    }
-    for len in [0, 1025] {
-        let path = vec![in rt.alloc(); b'a'; len]?;
-        let bytes = bundle_at(rt.alloc(), path.as_slice())?;
-        let outcome = run_over(rt.alloc(), "list", &bytes, &[])?;
-        assert_eq!(rt; outcome.status, Status::Refused, "{len}");
-        assert_eq!(rt; outcome.errors.bytes(), at_length.as_bytes(), "{len}");
-    }
-    let mut twice = begin_bundle(rt.alloc(), 2)?;
-    push_entry(&mut twice, b"I.class", &SMALLEST[23..])?;
-    push_entry(&mut twice, b"I.class", &SMALLEST[23..])?;
-    let outcome = run_over(rt.alloc(), "list", &twice, &[])?;
-    assert_eq!(rt; outcome.status, Status::Refused);
-    assert_eq!(rt;
-        outcome.errors.bytes(),
-        b"{\"entry\":1,\"fault\":\"BadBundle\",\"offset\":78,\"rule\":\"Path\"}\n".as_slice()
-    );
-    Ok(())
-}
-
-#[test]
 fn passes_entries_over(rt: HostRuntime) -> Result<(), Fail> {
-    let mut bytes = begin_bundle(rt.alloc(), 3)?;
-    push_entry(&mut bytes, b"a.txt", b"no class file")?;
-    push_entry(&mut bytes, b"I.class", &SMALLEST[23..])?;
-    push_entry(&mut bytes, b"META-INF/versions/9/I.class", &SMALLEST[23..])?;
+    let bytes = with_others(rt.alloc())?;
     let outcome = run_over(rt.alloc(), "list", &bytes, &[])?;
-    assert_eq!(rt; outcome.status, Status::Ok);
-    assert_eq!(rt;
-        outcome.output.bytes(),
-        b"type I\ntypes 1 methods 0\n".as_slice()
-    );
+    assert!(rt; outcome.is(Status::Ok, b"type I\ntypes 1 methods 0\n", b""));
     Ok(())
 }
 
+// The smallest bundle with another byte at a place, without its last bytes, and with others after it.
+fn changed(alloc: Global, at: usize, byte: u8, cut: usize, more: &[u8]) -> Result<Vec<u8>, Fail> {
+    let mut bytes = SMALLEST.to_vec(alloc)?;
+    if let Some(place) = bytes.get_mut(at) {
+        *place = byte;
+    }
+    bytes.truncate(SMALLEST.len().saturating_sub(cut));
+    bytes.extend_from_slice(more)?;
+    Ok(bytes)
+}
+
+// A byte of a name; a body without its last byte; and a byte after the last entry.
+const CHANGED: &[(usize, u8, usize, &[u8], &[u8])] = &[
+    (
+        45,
+        0,
+        0,
+        b"",
+        b"{\"entry\":0,\"fault\":\"BadClass\",\"index\":3,\"offset\":22,\"rule\":\"BadUtf8\"}\n",
+    ),
+    (
+        22,
+        52,
+        1,
+        b"",
+        b"{\"entry\":0,\"fault\":\"BadClass\",\"index\":0,\"offset\":51,\"rule\":\"Cut\"}\n",
+    ),
+    (
+        22,
+        53,
+        0,
+        b"\0",
+        b"{\"entry\":1,\"fault\":\"BadBundle\",\"offset\":76,\"rule\":\"Trailing\"}\n",
+    ),
+];
+
 #[test]
-fn refuses_class_files(rt: HostRuntime) -> Result<(), Fail> {
-    // a byte of a name
-    let mut unreadable = SMALLEST.to_vec(rt.alloc())?;
-    if let Some(byte) = unreadable.get_mut(45) {
-        *byte = 0;
+fn refuses_class_files_and_what_follows(rt: HostRuntime) -> Result<(), Fail> {
+    for (at, byte, cut, more, line) in CHANGED {
+        let bytes = changed(rt.alloc(), *at, *byte, *cut, more)?;
+        assert!(rt; is_refused(rt.alloc(), &bytes, line)?);
     }
-    let outcome = run_over(rt.alloc(), "list", &unreadable, &[])?;
-    assert_eq!(rt; outcome.status, Status::Refused);
-    assert_eq!(rt;
-        outcome.errors.bytes(),
-        b"{\"entry\":0,\"fault\":\"BadClass\",\"index\":3,\"offset\":22,\"rule\":\"BadUtf8\"}\n".as_slice()
-    );
-    // a body without its last byte
-    let mut cut = SMALLEST.to_vec(rt.alloc())?;
-    cut.pop();
-    if let Some(len) = cut.get_mut(22) {
-        *len = 52;
-    }
-    let outcome = run_over(rt.alloc(), "list", &cut, &[])?;
-    assert_eq!(rt; outcome.status, Status::Refused);
-    assert_eq!(rt;
-        outcome.errors.bytes(),
-        b"{\"entry\":0,\"fault\":\"BadClass\",\"index\":0,\"offset\":51,\"rule\":\"Cut\"}\n".as_slice()
-    );
     Ok(())
 }
 
-#[test]
-fn refuses_what_follows(rt: HostRuntime) -> Result<(), Fail> {
-    let mut bytes = SMALLEST.to_vec(rt.alloc())?;
-    bytes.push(0)?;
-    let outcome = run_over(rt.alloc(), "list", &bytes, &[])?;
-    assert_eq!(rt; outcome.status, Status::Refused);
-    assert_eq!(rt;
-        outcome.errors.bytes(),
-        b"{\"entry\":1,\"fault\":\"BadBundle\",\"offset\":76,\"rule\":\"Trailing\"}\n".as_slice()
-    );
-    Ok(())
-}
+const FAILED_READS: &[(&str, u64)] = &[("list", 0), ("list", 3), ("list", 8), ("sites", 3)];
 
 #[test]
 fn a_read_fails(rt: HostRuntime) -> Result<(), Fail> {
-    for (line, call) in [("list", 0), ("list", 3), ("list", 8), ("sites", 3)] {
-        let outcome = run_over(rt.alloc(), line, &SMALLEST, &[call])?;
-        assert_eq!(rt; outcome.status, Status::ReadFailed, "{line} at {call}");
-        assert_eq!(rt; outcome.output.bytes(), b"".as_slice(), "{line} at {call}");
-        assert_eq!(rt;
-            outcome.errors.bytes(),
-            b"read failed\n".as_slice(),
+    for (line, call) in FAILED_READS {
+        let outcome = run_over(rt.alloc(), line, SMALLEST, &[*call])?;
+        assert!(rt;
+            outcome.is(Status::ReadFailed, b"", b"read failed\n"),
             "{line} at {call}"
         );
     }
     Ok(())
 }
 
+// Runs words over the smallest bundle into a sink that fails, with no room on the errors. Tells whether they stay empty, too.
+fn run_trickle(
+    alloc: Global,
+    line: &str,
+    output: &mut Trickle,
+) -> Result<(Status, bool), NoMemory> {
+    let words = words(alloc, line)?;
+    let mut input = source_of(alloc, SMALLEST, &[])?;
+    let mut errors = MemorySink::new(alloc, 0, Vec::new(alloc))?;
+    let mut files = MemoryFiles::new(Vec::new(alloc), Vec::new(alloc));
+    let status = run(alloc, &words, &mut input, output, &mut errors, &mut files);
+    Ok((status, errors.bytes().is_empty()))
+}
+
+// The words, the number of the write that fails, and what was written before.
+const FAILED_WRITES: &[(&str, u64, &str)] = &[("list", 2, "type I\ntyp"), ("sites", 1, "sites")];
+
 #[test]
 fn a_write_fails(rt: HostRuntime) -> Result<(), Fail> {
-    let cases = [("list", 2, "type I\ntyp"), ("sites", 1, "sites")];
-    for (line, fail, written) in cases {
-        let words = words(rt.alloc(), line)?;
-        let mut input = MemorySource::new(SMALLEST.to_vec(rt.alloc())?, 100, Vec::new(rt.alloc()));
+    for (line, fail, written) in FAILED_WRITES {
         let mut output = Trickle {
             bytes: Vec::new(rt.alloc()),
-            fail,
+            fail: *fail,
             calls: 0,
             faults: 0,
         };
-        let mut errors = MemorySink::new(rt.alloc(), 0, Vec::new(rt.alloc()))?;
-        let mut files = MemoryFiles::new(Vec::new(rt.alloc()), Vec::new(rt.alloc()));
-        let status = run(
-            rt.alloc(),
-            &words,
-            &mut input,
-            &mut output,
-            &mut errors,
-            &mut files,
-        );
-        assert_eq!(rt; status, Status::WriteFailed, "{line}");
-        assert_eq!(rt; output.bytes.as_slice(), written.as_bytes(), "{line}");
-        assert_eq!(rt; errors.bytes(), b"".as_slice(), "{line}");
+        let (status, empty) = run_trickle(rt.alloc(), line, &mut output)?;
+        let same = output.bytes.as_slice() == written.as_bytes();
+        assert!(rt; status == Status::WriteFailed && same && empty, "{line}");
     }
     Ok(())
 }
 
+const TOO_LONG: &[u8] = b"{\"fault\":\"BodyTooLong\",\"limit\":67108864}\n";
+
 #[test]
 fn above_the_limit(rt: HostRuntime) -> Result<(), Fail> {
     for line in ["list", "sites"] {
-        let words = words(rt.alloc(), line)?;
         let bytes = vec![in rt.alloc(); 0u8; 67_108_865]?;
         let mut input = MemorySource::new(bytes, 1_000_000, Vec::new(rt.alloc()));
-        let mut output = MemorySink::new(rt.alloc(), 100, Vec::new(rt.alloc()))?;
-        let mut errors = MemorySink::new(rt.alloc(), 100, Vec::new(rt.alloc()))?;
-        let mut files = MemoryFiles::new(Vec::new(rt.alloc()), Vec::new(rt.alloc()));
-        let status = run(
-            rt.alloc(),
-            &words,
-            &mut input,
-            &mut output,
-            &mut errors,
-            &mut files,
-        );
-        assert_eq!(rt; status, Status::Refused, "{line}");
-        assert_eq!(rt;
-            errors.bytes(),
-            b"{\"fault\":\"BodyTooLong\",\"limit\":67108864}\n".as_slice(),
-            "{line}"
-        );
+        let mut outcome = outcome_of(rt.alloc(), 100, &[])?;
+        run_source(rt.alloc(), line, &mut input, &mut outcome)?;
+        assert!(rt; outcome.is(Status::Refused, b"", TOO_LONG), "{line}");
     }
     Ok(())
 }

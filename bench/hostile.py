@@ -471,6 +471,20 @@ def each_named(count, opcode, front=0, rounds=1):
     return class_file(pool, this, [(pool.utf8(stem(number)), void, some) for number in range(rounds)])
 
 
+def long_owners(sites, owners=100, length=60000):
+    """A class file of so many calls, one owner after the other, whose names share all but their last bytes."""
+    pool = Pool()
+    this = pool.named(b"A")
+    named = [pool.called(b"n" * (length - 3) + stem(number), b"a") for number in range(owners)]
+    kind = pool.utf8(b"()V")
+    word = pool.utf8(b"Code")
+    methods = []
+    for first in range(0, sites, PER_CODE):
+        code = b"".join(STATIC + u2(named[number % owners]) for number in range(first, min(sites, first + PER_CODE)))
+        methods.append((pool.utf8(stem(len(methods))), kind, attributes(attribute(word, code_content(code)))))
+    return class_file(pool, this, methods)
+
+
 def site_cases():
     """Each case of types that are made and of static fields."""
     both = ("list", "sites")
@@ -489,6 +503,10 @@ def site_cases():
                lambda part, o=opcode: spoiled(bundle_of(*[calls(int(most * part), long, long, field, o)] * 4)), True, both)
         yield ("20000 names sharing 1000 bytes, each in 40 times %s" % what,
                lambda part, o=opcode: one(each_named(20000, o, 1000, int(40 * part))), True, both)
+    yield ("1000000 calls by 100 owners of 60000 bytes that share a front",
+           lambda part: one(long_owners(int(1000000 * part))), True, ("list",))
+    yield ("the same, four class files",
+           lambda part: bundle_of(*[long_owners(int(1000000 * part))] * 4), False, ("list",))
     yield "21845 times new of a name of 65535 bytes", lambda part: one(calls(int(PER_CODE * part), long, opcode=NEW)), True, both
     yield ("21845 times getstatic of a name of 65535 bytes",
            lambda part: one(calls(int(PER_CODE * part), name=long, descriptor=b"I", opcode=GET)), True, both)

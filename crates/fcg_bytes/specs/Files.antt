@@ -38,29 +38,34 @@ below files folder = filter_map (λ f. relative folder f.path) files
 unfoldable pub paths_below : List File → List ℕ → List (List ℕ)
 paths_below files folder = once (below files folder)
 
--- what a list of a folder gives: no such folder first, and then too many files
-abbrev pub few : List (List ℕ) → Result (List (List ℕ)) FilesRefusal
-few paths = if nat_eq (length paths) 0 then Err refusals.Absent else (if nat_lt MOST_FILES (length paths) then Err refusals.TooLong else Ok paths)
+-- why files that are told have no answer: nothing is there, or it is too long
+pub data FilesFault : Type 0 where
+  Absent : FilesFault
+  TooLong : FilesFault
 
-abbrev pub list_answer : List File → List ℕ → Result (List (List ℕ)) FilesRefusal
+-- what a list of a folder gives: no such folder first, and then too many files
+abbrev pub few : List (List ℕ) → Result (List (List ℕ)) FilesFault
+few paths = if nat_eq (length paths) 0 then Err Absent else (if nat_lt MOST_FILES (length paths) then Err TooLong else Ok paths)
+
+abbrev pub list_answer : List File → List ℕ → Result (List (List ℕ)) FilesFault
 list_answer files folder = few (paths_below files folder)
 
 -- what a read of a path gives: no such file first, and then too many bytes
-abbrev pub short : ℕ → Option (List ℕ) → Result (List ℕ) FilesRefusal
-short limit None = Err refusals.Absent
-short limit (Some bytes) = if nat_lt limit (length bytes) then Err refusals.TooLong else Ok bytes
+abbrev pub short : ℕ → Option (List ℕ) → Result (List ℕ) FilesFault
+short limit None = Err Absent
+short limit (Some bytes) = if nat_lt limit (length bytes) then Err TooLong else Ok bytes
 
-abbrev pub read_answer : List File → List ℕ → ℕ → Result (List ℕ) FilesRefusal
+abbrev pub read_answer : List File → List ℕ → ℕ → Result (List ℕ) FilesFault
 read_answer files path limit = short limit (file_at files path)
 
 -- A call answers what its files give, unless it failed or memory ran out.
-abbrev pub Refuses : {Y : Type 0} → FilesRefusal → Result Y FilesRefusal → Type 0
+abbrev pub Refuses : {Y : Type 0} → FilesRefusal → Result Y FilesFault → Type 0
 Refuses refusals.NoMemory answer = Unit {0}
 Refuses refusals.Failed answer = Unit {0}
-Refuses refusals.Absent answer = answer ≡ Err refusals.Absent
-Refuses refusals.TooLong answer = answer ≡ Err refusals.TooLong
+Refuses refusals.Absent answer = answer ≡ Err Absent
+Refuses refusals.TooLong answer = answer ≡ Err TooLong
 
-abbrev pub Answers : {X Y : Type 0} → (X → Y) → Result X FilesRefusal → Result Y FilesRefusal → Type 0
+abbrev pub Answers : {X Y : Type 0} → (X → Y) → Result X FilesRefusal → Result Y FilesFault → Type 0
 Answers view (Ok x) answer = answer ≡ Ok (view x)
 Answers view (Err e) answer = Refuses e answer
 

@@ -22,6 +22,7 @@ use Rattle.std.proofs.lemmas.List.Folds.{list_all-map}
 use Rattle.std.proofs.lemmas.List.Sums.{sum_by-append, sum_by-cons}
 use Rattle.std.proofs.lemmas.List.Quantifiers.{position-Some}
 use Rattle.fcg_grammar.specs.Spell.{u2, u4}
+use Rattle.fcg_bytes.specs.Files as listing
 use Rattle.fcg_bytes.specs.Files.{File, Refuses, few, file_at, list_answer, path_in, paths_below, texts}
 use Rattle.fcg_bytes.specs.declared.files.FilesRefusal.{FilesRefusal}
 use Rattle.fcg_bytes.specs.declared.files.FilesRefusal.TheVariants as files
@@ -32,8 +33,8 @@ use Rattle.fcg_class.specs.Bundle.{Entry, entry, bundle}
 use Rattle.fcg_class.specs.declared.packing.PackedFile.{PackedFile}
 use Rattle.fcg_class.specs.declared.packing.PackRefusal.{PackRefusal}
 use Rattle.fcg_class.specs.declared.packing.PackRefusal.TheVariants as refusals
-use Rattle.fcg_class.specs.Pack.{ArePacked, IsRefusal, bad_path, bundle_limit, checked, entry_in, is_packed, of_paths, pack_of, packed, refusal_of}
-use Rattle.fcg_class.specs.Internal.Packing.{AreThere, GivesFile, GivesFiles, bundle_size, entry_of, entry_size, head}
+use Rattle.fcg_class.specs.Pack.{ArePacked, IsRefusal, PackFault, TooLong, bad_path, bundle_limit, checked, entry_in, is_packed, of_paths, pack_of, packed, refusal_of}
+use Rattle.fcg_class.specs.Internal.Packing.{AreThere, GivesCheck, GivesFile, GivesFiles, bundle_size, entry_of, entry_size, head}
 use Rattle.fcg_class.proofs.BundleLaws.{entry_length}
 
 -- ---- sorted texts, each once
@@ -202,7 +203,7 @@ size_more front f =
 few_are : (paths listed : List (List ℕ)) → few paths ≡ Ok listed → paths ≡ listed
 few_are paths listed = from (nat_eq (length paths) 0) (nat_lt MOST_FILES (length paths))
   where
-    from : (none many : Bool) → cond none (Err files.Absent) (cond many (Err files.TooLong) (Ok paths)) ≡ Ok listed → paths ≡ listed
+    from : (none many : Bool) → cond none (Err listing.Absent) (cond many (Err listing.TooLong) (Ok paths)) ≡ Ok listed → paths ≡ listed
     from true many e = absurd cc
     from false true e = absurd cc
     from false false e = cc
@@ -237,20 +238,20 @@ list_refused (Some told) folder e given = of e given
     of files.Failed g = tt
     of files.TooLong g = rw g refl
 
-refused_so : (e : PackRefusal) (answer : Result (List Entry) PackRefusal) → answer ≡ Err e → IsRefusal e answer
-refused_so refusals.NoMemory answer is = tt
-refused_so refusals.Absent answer is = is
-refused_so refusals.FilesFailed answer is = tt
-refused_so refusals.TooLong answer is = is
-refused_so (refusals.BadPath k) answer is = is
-refused_so refusals.WriteFailed answer is = tt
+path_refused : (read : List Entry) (e : PackRefusal) (bad : Option ℕ) → GivesCheck bad (Err e) → IsRefusal e (of_paths read bad)
+path_refused read refusals.NoMemory bad is = tt
+path_refused read refusals.Absent bad is = absurd is
+path_refused read refusals.FilesFailed bad is = tt
+path_refused read refusals.TooLong bad is = absurd is
+path_refused read (refusals.BadPath k) bad is = rw is refl
+path_refused read refusals.WriteFailed bad is = tt
 
 -- what the files of the listed paths give
 pack_listed : (told : List File) (folder : List ℕ) (listed : List (List ℕ)) → list_answer told folder ≡ Ok listed → pack_of told folder ≡ checked (map (entry_in told folder) (packed listed))
 unfolding pack_of
 pack_listed told folder listed e = rw e refl
 
-too_long : (es : List Entry) → bundle_limit < bundle_size es → checked es ≡ Err refusals.TooLong
+too_long : (es : List Entry) → bundle_limit < bundle_size es → checked es ≡ Err TooLong
 too_long es lt = rw (lt-ltb bundle_limit (length (bundle es)) (let n = bundle_size_is es in omega (arith, lt, n))) refl
 
 short_enough : (es : List Entry) → bundle_size es ≤ bundle_limit → checked es ≡ of_paths es (bad_path es)
@@ -280,27 +281,20 @@ module _ (folder : List ℕ) (listed paths : List (List ℕ)) (chosen : paths �
   were_read told read list given short = gives told list ∙ ap checked (sym (given (there told list))) ∙ short_enough read short
 
   pub paths_refused : (t : Option (List File)) (read : List Entry) (e : PackRefusal) → IfSome t (λ told. list_answer told folder ≡ Ok listed) → IfSome t (λ told. AreThere told folder paths → GivesFiles (map (entry_in told folder) paths) (Ok read)) → bundle_size read ≤ bundle_limit
-      → Err e ≡ of_paths read (bad_path read) → IfSome t (λ told. IsRefusal e (pack_of told folder))
+      → GivesCheck (bad_path read) (Err e) → IfSome t (λ told. IsRefusal e (pack_of told folder))
   paths_refused None read e list given short bad = tt
-  paths_refused (Some told) read e list given short bad = refused_so e (pack_of told folder) (were_read told read list given short ∙ sym bad)
-
-  none_bad : (read : List Entry) → Ok read ≡ of_paths read (bad_path read) → bad_path read ≡ None
-  none_bad read = from (bad_path read)
-    where
-      from : (bad : Option ℕ) → Ok read ≡ of_paths read bad → bad ≡ None
-      from None e = refl
-      from (Some k) e = absurd cc
+  paths_refused (Some told) read e list given short bad = subst (λ (answer : Result (List Entry) PackFault). IsRefusal e answer) (sym (were_read told read list given short)) (path_refused read e (bad_path read) bad)
 
   given_so : (t : Option (List File)) (read : List Entry) → IfSome t (λ told. list_answer told folder ≡ Ok listed) → IfSome t (λ told. AreThere told folder paths → GivesFiles (map (entry_in told folder) paths) (Ok read)) → bundle_size read ≤ bundle_limit
-      → Ok read ≡ of_paths read (bad_path read) → IfSome t (λ told. pack_of told folder ≡ Ok read)
+      → bad_path read ≡ None → IfSome t (λ told. pack_of told folder ≡ Ok read)
   given_so None read list given short good = tt
-  given_so (Some told) read list given short good = were_read told read list given short ∙ sym good
+  given_so (Some told) read list given short good = were_read told read list given short ∙ ap (of_paths read) good
 
   pub are_packed : (t : Option (List File)) (read : List PackedFile) → map (λ f. string_bytes f.path) read ≡ paths → IfSome t (λ told. list_answer told folder ≡ Ok listed) → IfSome t (λ told. AreThere told folder paths → GivesFiles (map (entry_in told folder) paths) (Ok (map entry_of read)))
-      → bundle_size (map entry_of read) ≤ bundle_limit → Ok (map entry_of read) ≡ of_paths (map entry_of read) (bad_path (map entry_of read)) → ArePacked t folder (map entry_of read)
+      → bundle_size (map entry_of read) ≤ bundle_limit → bad_path (map entry_of read) ≡ None → ArePacked t folder (map entry_of read)
   are_packed t read names list given short good = record {
     rise = subst (λ (ps : List (List ℕ)). Rises ps) (sym same) (table_rises (filter is_packed listed));
-    paths = good_paths (map entry_of read) (none_bad (map entry_of read) good);
+    paths = good_paths (map entry_of read) good;
     chosen = sym (list_all-map is_packed (λ (e : Entry). e.path) (map entry_of read)) ∙ ap (list_all is_packed) same ∙ all_packed;
     short = let n = bundle_size_is (map entry_of read) in omega (arith, n, short);
     given = given_so t (map entry_of read) list given short good;

@@ -4,7 +4,8 @@ use Rattle.std.specs.List.{filter, position, list_all, AllZip}
 use Rattle.std.specs.Option.{unwrap_or}
 use Rattle.std.specs.Io.KnownBytes.{Appends, Keeps}
 use Rattle.fcg_grammar.specs.Table.{table, Rises}
-use Rattle.fcg_bytes.specs.Files.{File, file_at, list_answer, path_in}
+use Rattle.fcg_bytes.specs.Files as listing
+use Rattle.fcg_bytes.specs.Files.{File, FilesFault, file_at, list_answer, path_in}
 use Rattle.fcg_views.specs.Valid.{is_same}
 use Rattle.fcg_bytes.specs.declared.files.FilesRefusal.{FilesRefusal}
 use Rattle.fcg_bytes.specs.declared.files.FilesRefusal.TheVariants as files
@@ -37,35 +38,48 @@ entry_in files folder path = record { path = path; body = unwrap_or (file_at fil
 abbrev pub bad_path : List Entry → Option ℕ
 bad_path entries = position (λ e. not (is_path e.path)) entries
 
-abbrev pub of_paths : List Entry → Option ℕ → Result (List Entry) PackRefusal
+-- why a folder isn't packed: there is none, it is too long, or the path of this entry is none of a bundle
+pub data PackFault : Type 0 where
+  Absent : PackFault
+  TooLong : PackFault
+  BadPath : ℕ → PackFault
+
+abbrev pub of_paths : List Entry → Option ℕ → Result (List Entry) PackFault
 of_paths entries None = Ok entries
-of_paths entries (Some k) = Err (refusals.BadPath k)
+of_paths entries (Some k) = Err (BadPath k)
 
 -- a bundle that is too long is refused, and then one with such a path
-abbrev pub checked : List Entry → Result (List Entry) PackRefusal
-checked entries = if nat_lt bundle_limit (length (bundle entries)) then Err refusals.TooLong else of_paths entries (bad_path entries)
+abbrev pub checked : List Entry → Result (List Entry) PackFault
+checked entries = if nat_lt bundle_limit (length (bundle entries)) then Err TooLong else of_paths entries (bad_path entries)
 
+abbrev pub fault_of : FilesFault → PackFault
+fault_of listing.Absent = Absent
+fault_of listing.TooLong = TooLong
+
+abbrev pub of_list : List File → List ℕ → Result (List (List ℕ)) FilesFault → Result (List Entry) PackFault
+of_list told folder (Ok paths) = checked (map (entry_in told folder) (packed paths))
+of_list told folder (Err f) = Err (fault_of f)
+
+-- The entries of the bundle that a folder is packed as, or why it isn't packed.
+unfoldable pub pack_of : List File → List ℕ → Result (List Entry) PackFault
+pack_of told folder = of_list told folder (list_answer told folder)
+
+-- The refusal that a call answered is what the files give, unless a call of the files or the sink failed or memory ran
+-- out.
+abbrev pub IsRefusal : PackRefusal → Result (List Entry) PackFault → Type 0
+IsRefusal refusals.NoMemory answer = Unit {0}
+IsRefusal refusals.Absent answer = answer ≡ Err Absent
+IsRefusal refusals.FilesFailed answer = Unit {0}
+IsRefusal refusals.TooLong answer = answer ≡ Err TooLong
+IsRefusal (refusals.BadPath k) answer = answer ≡ Err (BadPath k)
+IsRefusal refusals.WriteFailed answer = Unit {0}
+
+-- what packing answers where the files refuse
 abbrev pub refusal_of : FilesRefusal → PackRefusal
 refusal_of files.NoMemory = refusals.NoMemory
 refusal_of files.Absent = refusals.Absent
 refusal_of files.Failed = refusals.FilesFailed
 refusal_of files.TooLong = refusals.TooLong
-
-abbrev pub of_list : List File → List ℕ → Result (List (List ℕ)) FilesRefusal → Result (List Entry) PackRefusal
-of_list told folder (Ok paths) = checked (map (entry_in told folder) (packed paths))
-of_list told folder (Err e) = Err (refusal_of e)
-
--- The entries of the bundle that a folder is packed as, or why it isn't packed.
-unfoldable pub pack_of : List File → List ℕ → Result (List Entry) PackRefusal
-pack_of told folder = of_list told folder (list_answer told folder)
-
--- The refusal that a call answered is what the files give, unless a call of the files or the sink failed or memory ran
--- out.
-abbrev pub IsRefusal : PackRefusal → Result (List Entry) PackRefusal → Type 0
-IsRefusal refusals.NoMemory answer = Unit {0}
-IsRefusal refusals.FilesFailed answer = Unit {0}
-IsRefusal refusals.WriteFailed answer = Unit {0}
-IsRefusal e answer = answer ≡ Err e
 
 -- Entries that a folder is packed as: their paths rise, each is a path of a bundle and one that is packed, and the bundle
 -- isn't too long. Where the files are told they are the entries that these give.

@@ -5,8 +5,8 @@ ghost use Rattle.fcg_bytes.specs.Causes.{Rose};
 ghost use Rattle.fcg_bytes.specs.Files.{file_at, path_in, texts};
 ghost use Rattle.fcg_grammar.specs.Reading.{seen};
 ghost use Rattle.fcg_class.specs.Bundle.{bundle, entry};
-ghost use Rattle.fcg_class.specs.Pack.{ArePacked, IsRefusal, Writes, bad_path, bundle_limit, entry_in, is_packed, of_paths, pack_of, packed};
-ghost use Rattle.fcg_class.specs.Internal.Packing.{AreThere, GivesFile, GivesFiles, bundle_size, entry_of, entry_size, head};
+ghost use Rattle.fcg_class.specs.Pack.{ArePacked, IsRefusal, Writes, bad_path, bundle_limit, entry_in, is_packed, pack_of, packed};
+ghost use Rattle.fcg_class.specs.Internal.Packing.{AreThere, GivesCheck, GivesFile, GivesFiles, bundle_size, entry_of, entry_size, head};
 ghost use Rattle.fcg_class.specs.Path.{is_path};
 ghost use Rattle.fcg_class.specs.declared.packing.PackRefusal.TheVariants as refusals;
 
@@ -200,7 +200,7 @@ fn find_bad(files: &[PackedFile]) -> Option<usize>
 // Checks the paths of the files that were read.
 fn check_paths(files: &[PackedFile]) -> Result<(), PackRefusal>
     requires { bundle_size (map entry_of files.now) ≤ bundle_limit }
-    ensures { seen (λ _. map entry_of files.now) result ≡ of_paths (map entry_of files.now) (bad_path (map entry_of files.now)) }
+    ensures { GivesCheck (bad_path (map entry_of files.now)) result }
 {
     match find_bad(files) {
         Some(entry) => Err(PackRefusal::BadPath {

@@ -3,7 +3,7 @@ use Rattle.std.proofs.Common.{◌≡◌, ℕ, List, inl, inr, refl, subst}
 use Rattle.std.specs.Prelude.{Option, Some, None, IfSome, Result, Err}
 use Rattle.fcg_bytes.specs.Files.{File}
 use Rattle.fcg_class.specs.Bundle.{Entry}
-use Rattle.fcg_class.specs.Pack.{IsRefusal, pack_of}
+use Rattle.fcg_class.specs.Pack.{IsRefusal, PackFault, pack_of}
 use Rattle.fcg_class.specs.declared.packing.PackRefusal.{PackRefusal}
 use Rattle.fcg_class.specs.declared.packing.PackRefusal.TheVariants as packs
 use Rattle.fcg_top.specs.declared.status.Stop.TheVariants as stops
@@ -18,7 +18,7 @@ refused_line : (refusal : Refusal) (status : Status) (answer : Result (List ℕ)
 refused_line refusal status answer is (inl e) = rw (e, is) refl
 refused_line refusal status answer is (inr e) = rw e refl
 
-same_line : (refusal : PackRefusal) (status : Status) (answer : Result (List Entry) PackRefusal) → IsRefusal refusal answer → IsStatusOf (stop_of_pack refusal) status → stop_line status (stop_of_pack refusal) ≡ errors_of status (answer_of_pack answer)
+same_line : (refusal : PackRefusal) (status : Status) (answer : Result (List Entry) PackFault) → IsRefusal refusal answer → IsStatusOf (stop_of_pack refusal) status → stop_line status (stop_of_pack refusal) ≡ errors_of status (answer_of_pack answer)
 same_line packs.NoMemory status answer is e = rw e refl
 same_line packs.Absent status answer is e = refused_line _ status (answer_of_pack answer) (rw is refl) e
 same_line packs.FilesFailed status answer is e = rw e refl

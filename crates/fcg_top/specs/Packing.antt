@@ -4,9 +4,7 @@ use Rattle.std.specs.Io.KnownBytes.{Appends}
 use Rattle.fcg_bytes.specs.Causes.{Rose}
 use Rattle.fcg_bytes.specs.Files.{File}
 use Rattle.fcg_class.specs.Bundle.{Entry, bundle}
-use Rattle.fcg_class.specs.Pack.{ArePacked, pack_of}
-use Rattle.fcg_class.specs.declared.packing.PackRefusal.{PackRefusal}
-use Rattle.fcg_class.specs.declared.packing.PackRefusal.TheVariants as packs
+use Rattle.fcg_class.specs.Pack.{ArePacked, PackFault, Absent, TooLong, BadPath, pack_of}
 use Rattle.fcg_top.specs.declared.status.Status.{Status}
 use Rattle.fcg_top.specs.declared.status.Status.TheVariants as statuses
 use Rattle.fcg_top.specs.declared.status.Refusal.{Refusal}
@@ -14,12 +12,12 @@ use Rattle.fcg_top.specs.declared.status.Refusal.TheVariants as refusals
 use Rattle.fcg_top.specs.Objects.{Output, FileSystem}
 use Rattle.fcg_top.specs.Answer.{GainsFront, Leaves, Tells, errors_of}
 
--- A folder that isn't packed is absent, or has a path that a bundle may not have, or is too long.
-abbrev pub answer_of_pack : Result (List Entry) PackRefusal → Result (List ℕ) Refusal
+-- A folder that isn't packed is absent, or is too long, or has a path that a bundle may not have.
+abbrev pub answer_of_pack : Result (List Entry) PackFault → Result (List ℕ) Refusal
 answer_of_pack (Ok entries) = Ok (bundle entries)
-answer_of_pack (Err packs.Absent) = Err refusals.Absent
-answer_of_pack (Err (packs.BadPath entry)) = Err (refusals.BadPath entry)
-answer_of_pack (Err refusal) = Err refusals.TooLong
+answer_of_pack (Err Absent) = Err refusals.Absent
+answer_of_pack (Err TooLong) = Err refusals.TooLong
+answer_of_pack (Err (BadPath entry)) = Err (refusals.BadPath entry)
 
 -- What packing answers for a folder of some files: its bundle, or a refusal.
 unfoldable pub pack_answer : List ℕ → List File → Result (List ℕ) Refusal

@@ -1,5 +1,5 @@
 -- How a folder is packed, step by step.
-use Rattle.std.specs.Prelude.{◌≡◌, ℕ, ◌+◌, ◌<◌, List, [], ◌∷◌, length, sum_by, Result, Ok, Err, IsSome, string_bytes}
+use Rattle.std.specs.Prelude.{◌≡◌, ℕ, ◌+◌, ◌<◌, List, [], ◌∷◌, length, sum_by, Option, Some, None, Result, Ok, Err, IsSome, string_bytes}
 use Rattle.std.specs.List.{All, concat}
 use Rattle.fcg_grammar.specs.Spell.{u2, u4}
 use Rattle.fcg_bytes.specs.Files.{File, file_at, path_in}
@@ -40,6 +40,12 @@ GivesFiles es (Err refusals.TooLong) = bundle_limit < bundle_size es
 GivesFiles es (Err refusals.Absent) = ⊥
 GivesFiles es (Err (refusals.BadPath k)) = ⊥
 GivesFiles es (Err refusal) = Unit {0}
+
+-- What the check of the paths of some entries gives, by the first bad one.
+abbrev pub GivesCheck : Option ℕ → Result (Unit {0}) PackRefusal → Type 0
+GivesCheck bad (Ok checked) = bad ≡ None
+GivesCheck bad (Err (refusals.BadPath k)) = bad ≡ Some k
+GivesCheck bad (Err refusal) = ⊥
 
 -- what stands before the entries of a bundle
 abbrev pub head : ℕ → List ℕ

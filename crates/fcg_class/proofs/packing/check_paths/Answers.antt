@@ -1,7 +1,6 @@
-use Rattle.std.proofs.Common.{arith, sym, ◌∙◌, ap, not}
+use Rattle.std.proofs.Common.{arith, sym, ◌∙◌, not}
 use Rattle.std.specs.Prelude.{map}
 use Rattle.fcg_class.specs.Path.{is_path}
-use Rattle.fcg_class.specs.Pack.{of_paths}
 use Rattle.fcg_class.specs.Internal.Packing.{entry_of}
 use Rattle.fcg_class.proofs.PackLemmas.{bad_within, entries_few, position_map}
 use Rattle.fcg_class.proofs.packing.check_paths.Goals as goal
@@ -14,11 +13,7 @@ overflow_cast-result c =
     omega (arith, few, entries_few es, c.requires)
 
 pub returns-in-Some : goal.returns-in-Some
-returns-in-Some c =
-    let bad = position_map (λ e. not (is_path e.path)) entry_of c.args.files.now ∙ sym c.find_bad.ensures ∙ c.in-Some.is in
-    sym (ap (of_paths (map entry_of c.args.files.now)) bad)
+returns-in-Some c = position_map (λ e. not (is_path e.path)) entry_of c.args.files.now ∙ sym c.find_bad.ensures ∙ c.in-Some.is
 
 pub returns-in-None : goal.returns-in-None
-returns-in-None c =
-    let good = position_map (λ e. not (is_path e.path)) entry_of c.args.files.now ∙ sym c.find_bad.ensures ∙ c.in-None.is in
-    sym (ap (of_paths (map entry_of c.args.files.now)) good)
+returns-in-None c = position_map (λ e. not (is_path e.path)) entry_of c.args.files.now ∙ sym c.find_bad.ensures ∙ c.in-None.is

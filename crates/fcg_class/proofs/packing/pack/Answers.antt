@@ -1,11 +1,12 @@
-use Rattle.std.proofs.Common.{arith, subst, ◌∙◌, List, ℕ}
-use Rattle.std.specs.Prelude.{map, Option, Err, Ok, IfSome, take}
+use Rattle.std.proofs.Common.{arith, subst, ◌≡◌, ◌∙◌, List, ℕ}
+use Rattle.std.specs.Prelude.{map, Option, None, Err, Ok, IfSome, take}
 use Rattle.std.specs.Io.KnownBytes.{Appends}
 use Rattle.std.proofs.lemmas.List.{length-map}
 use Rattle.std.proofs.lemmas.Result.{err_from_is_err_and}
 use Rattle.fcg_bytes.specs.Files.{File, texts}
-use Rattle.fcg_class.specs.Pack.{entry_in}
-use Rattle.fcg_class.specs.Internal.Packing.{AreThere, GivesFiles, entry_of}
+use Rattle.fcg_class.specs.Pack.{bad_path, entry_in}
+use Rattle.fcg_class.specs.declared.packing.PackedFile.{PackedFile}
+use Rattle.fcg_class.specs.Internal.Packing.{AreThere, GivesCheck, GivesFiles, entry_of}
 use Rattle.fcg_class.proofs.PackLemmas.{list_refused, read_refused, paths_refused, are_packed, entries_few}
 use Rattle.fcg_class.proofs.packing.pack.Goals as goal
 
@@ -32,7 +33,7 @@ returns-in_err-check_paths-clause-refused g c =
     let paths = texts c.choose_paths-paths.result.items in
     let read = c.in_ok-read.read.items in
     let given = subst (λ (t : Option (List File)). IfSome t (λ told. AreThere told folder paths → GivesFiles (map (entry_in told folder) paths) (Ok (map entry_of read)))) c.in_ok-list.ensures.told c.in_ok-read.ensures.answer in
-    let bad = rw c.deref.ensures.value at c.in_err-check_paths.ensures in
+    let bad = subst (λ (files : List PackedFile). GivesCheck (bad_path (map entry_of files)) (Err c.in_err-check_paths.field-0.0)) c.deref.ensures.value c.in_err-check_paths.ensures in
     rw (p.1, p.2) (paths_refused folder (texts c.in_ok-list.field-0) paths c.choose_paths-paths.ensures T (map entry_of read) c.in_err-check_paths.field-0.0 c.in_ok-list.ensures.answer given c.in_ok-read.ensures.short bad)
 
 pub overflow_cast-count : goal.overflow_cast-count
@@ -46,7 +47,7 @@ returns-in_err-write_whole-clause-wrote g c =
     let paths = texts c.choose_paths-paths.result.items in
     let read = c.in_ok-read.read.items in
     let given = subst (λ (t : Option (List File)). IfSome t (λ told. AreThere told folder paths → GivesFiles (map (entry_in told folder) paths) (Ok (map entry_of read)))) c.in_ok-list.ensures.told c.in_ok-read.ensures.answer in
-    let good = rw c.deref.ensures.value at c.in_ok-check_paths.ensures in
+    let good = subst (λ (files : List PackedFile). bad_path (map entry_of files) ≡ None) c.deref.ensures.value c.in_ok-check_paths.ensures in
     let are = are_packed folder (texts c.in_ok-list.field-0) paths c.choose_paths-paths.ensures T read c.in_ok-read.ensures.paths c.in_ok-list.ensures.answer given c.in_ok-read.ensures.short good in
     let same = c.as_slice.ensures.value ∙ c.in_ok-bundle.ensures in
     rw (p.1, p.2) (map entry_of read, are, subst (λ (bytes : List ℕ). (n : ℕ) × Appends (g.W.Sink.taken c.args.sink.now) (g.W.Sink.taken c.write_whole.new.sink) (take n bytes)) same c.in_err-write_whole.ensures.failed)
@@ -58,7 +59,7 @@ returns-clause-wrote g c =
     let paths = texts c.choose_paths-paths.result.items in
     let read = c.in_ok-read.read.items in
     let given = subst (λ (t : Option (List File)). IfSome t (λ told. AreThere told folder paths → GivesFiles (map (entry_in told folder) paths) (Ok (map entry_of read)))) c.in_ok-list.ensures.told c.in_ok-read.ensures.answer in
-    let good = rw c.deref.ensures.value at c.in_ok-check_paths.ensures in
+    let good = subst (λ (files : List PackedFile). bad_path (map entry_of files) ≡ None) c.deref.ensures.value c.in_ok-check_paths.ensures in
     let are = are_packed folder (texts c.in_ok-list.field-0) paths c.choose_paths-paths.ensures T read c.in_ok-read.ensures.paths c.in_ok-list.ensures.answer given c.in_ok-read.ensures.short good in
     let same = c.as_slice.ensures.value ∙ c.in_ok-bundle.ensures in (
       map entry_of read,

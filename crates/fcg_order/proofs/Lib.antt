@@ -1,0 +1,13 @@
+pub mod WalkLaws
+pub mod FrameLaws
+pub mod EnterLaws
+pub mod FollowLaws
+pub mod LowerLaws
+pub mod SetAllLaws
+pub mod PopLaws
+pub mod RowLaws
+pub mod WorkLaws
+pub mod StepLaws
+pub mod SearchLaws
+pub mod FillLaws
+pub mod WithinLaws

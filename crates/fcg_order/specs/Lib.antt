@@ -1,0 +1,4 @@
+pub mod Links
+pub mod Order
+pub mod Fill
+pub mod Internal

@@ -5,4 +5,6 @@ pub mod TableLaws
 pub mod Firsts
 pub mod SeenNumbers
 pub mod MarkLaws
+pub mod KeyLists
+pub mod NumberLaws
 pub mod KnownMarks

@@ -1,7 +1,7 @@
 //! The beginning of joining: the types of a set, read together by numbers. Names are numbered in the order of their bytes, and
 //! winners are found by the numbers of their names. Laws say which other tables by numbers are those of the rules of the
 //! analysis: circles and known types, links, gaps, and what is at or below a name. The crate stands on the words of formats,
-//! on the views, on the rules of the analysis, and on links by numbers.
+//! on the rules of the analysis, and on links by numbers.
 #![tactic(auto)]
 
 mod laws;

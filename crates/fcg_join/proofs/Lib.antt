@@ -1,0 +1,10 @@
+pub mod Places
+pub mod Circles
+pub mod Upward
+pub mod TableLaws
+pub mod Firsts
+pub mod SeenNumbers
+pub mod MarkLaws
+pub mod KeyLists
+pub mod NumberLaws
+pub mod KnownMarks

@@ -1,0 +1,5 @@
+pub mod Winners
+pub mod TypeLinks
+pub mod TypeTables
+pub mod Names
+pub mod Internal

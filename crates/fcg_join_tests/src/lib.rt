@@ -1,0 +1,5 @@
+//! The tests of `fcg_join`, by its public calls alone.
+#![tactic(auto)]
+
+#[cfg(test)]
+mod numbers;

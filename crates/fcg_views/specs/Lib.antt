@@ -2,6 +2,7 @@ pub mod Escape
 pub mod Descriptor
 pub mod DescriptorSteps
 pub mod Valid
+pub mod NamesIn
 pub mod Coordinate
 pub mod Set
 pub mod Uri

@@ -2,7 +2,7 @@
 ghost use Rattle.std.specs.Prelude.{◌≡◌};
 
 use crate::name::Name;
-use crate::view::{Field, Method, Site, View};
+use crate::view::{Field, Method, Site};
 use std::alloc::AllocError;
 use std::marker::Model;
 
@@ -82,9 +82,6 @@ pub type Methods = Items<Method>;
 
 /// Call sites, in the order of the code.
 pub type Sites = Items<Site>;
-
-/// Views, in the order of the bundle.
-pub type Views = Items<View>;
 
 /// Paths of files, as texts whose parts stand between slashes.
 pub type Paths = Items<String>;

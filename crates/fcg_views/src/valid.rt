@@ -3,9 +3,9 @@ ghost use Rattle.std.specs.Prelude.{◌≡◌, ◌↔◌, ◌≤◌, ◌<◌, �
 ghost use Rattle.std.specs.List.{IsDistinct};
 ghost use Rattle.fcg_views.specs.Valid.{IsShort, IsShortOrNone, IsTable, HasShortNames, IsValidField, IsValidMethod, IsValid, site_count, left_of, method_names, own_names, view_names, name_count, is_alike};
 
-use crate::items::Views;
 use crate::name::Name;
 use crate::view::{Field, Method, Site, View};
+use crate::views::Views;
 
 // The most that two bytes count.
 const MOST: usize = 65_535;

@@ -2,7 +2,7 @@
 //! contract that a caller knows.
 ghost use Rattle.std.specs.Prelude.{◌≡◌, ◌+◌, ◌<◌};
 
-use fcg_views::{Items, Method, Name, Steps, View, Views, is_valid};
+use fcg_views::{Items, Method, Name, NameList, Steps, View, Views, is_valid};
 use std::alloc::Global;
 use std::marker::Brand;
 use std::mem::size_of;
@@ -58,7 +58,7 @@ fn view_of(alloc: Global, methods: &[(&str, &str)]) -> Result<View, Fail> {
 fn views(alloc: Global) -> Result<Views, Fail> {
     let apart = view_of(alloc, &[("f", "()V"), ("f", "(I)V"), ("g", "()V")])?;
     let alike = view_of(alloc, &[("f", "()V"), ("g", "()V"), ("f", "()V")])?;
-    Ok(Items::from(vec![in alloc; apart, alike]?))
+    Ok(Views::from(vec![in alloc; apart, alike]?))
 }
 
 fn only_first_is_valid(views: &[View]) -> bool {
@@ -72,6 +72,37 @@ fn only_first_is_valid(views: &[View]) -> bool {
 fn tells_valid_views(rt: HostRuntime) -> Result<(), Fail> {
     let views = views(rt.alloc())?;
     assert!(rt; only_first_is_valid(views.as_slice()) && views.fits());
+    Ok(())
+}
+
+// The names `Object`, `lang` and again `Object`, which have two texts.
+fn name_list(alloc: Global) -> Result<NameList, Fail> {
+    let block = Name::from_slice(alloc, b"java/lang/Object")?;
+    let mut names = NameList::new(alloc, block);
+    let object = names.add_text(10, 6)?;
+    let lang = names.add_text(5, 4)?;
+    names.push(object)?;
+    names.push(lang)?;
+    names.push(object)?;
+    names.shrink_to_fit();
+    Ok(names)
+}
+
+#[test]
+fn keeps_names_by_numbers(rt: HostRuntime) -> Result<(), Fail> {
+    let names = name_list(rt.alloc())?;
+    assert!(rt; names.numbers() == [0, 1, 0].as_slice() && names.text_count() == 2);
+    if names.text_count() == 2 {
+        assert!(rt; names.text(1)?.as_slice() == b"lang".as_slice());
+    }
+    Ok(())
+}
+
+#[test]
+fn plain_views_keep_no_names(rt: HostRuntime) -> Result<(), Fail> {
+    let plain = views(rt.alloc())?;
+    let none = Views::new(rt.alloc());
+    assert!(rt; plain.names().is_none() && none.names().is_some() && none.as_slice().is_empty());
     Ok(())
 }
 

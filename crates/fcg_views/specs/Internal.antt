@@ -2,3 +2,4 @@
 pub mod EscapeTables
 pub mod ClassSteps
 pub mod DescriptorBounds
+pub mod UriParts

@@ -94,7 +94,7 @@ fn has_byte(part: &[u8]) -> bool
     !part.is_empty()
 }
 
-// Whether each byte may stand in a text that isn't too long.
+// The first byte that may not stand in a text, where that isn't too long.
 fn check_bytes(text: &[u8]) -> Result<(), CoordinateFault>
     requires { length text.now ≤ 255 }
     ensures { result ≡ none_bad (position is_bad text.now) }
@@ -105,7 +105,7 @@ fn check_bytes(text: &[u8]) -> Result<(), CoordinateFault>
     }
 }
 
-// The first rule that a text breaks which isn't too long.
+// The first rule that a text breaks, where it isn't too long.
 #[tactic(auto, unfolding(crate::specs::Coordinate::coordinate_of))]
 fn check_short(text: &[u8]) -> Result<(), CoordinateFault>
     requires { length text.now ≤ 255 }

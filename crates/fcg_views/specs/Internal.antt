@@ -3,3 +3,4 @@ pub mod EscapeTables
 pub mod ClassSteps
 pub mod DescriptorBounds
 pub mod Spans
+pub mod UriParts

@@ -7,7 +7,7 @@ ghost use Rattle.std.specs.Cmp.Rules.{comparing, hashing};
 ghost use Rattle.std.specs.Cmp.Lexicographic.{pointwise, slice_cmp, nat_list_eq_equiv};
 ghost use Rattle.std.specs.Ordering.{nat_cmp, as_partial_cmp};
 ghost use Rattle.fcg_grammar.specs.Reading.{seen, Gives};
-ghost use Rattle.fcg_views.specs.Coordinate.{IsCoordinate, is_part_byte, is_bad, has_byte, coordinate_of};
+ghost use Rattle.fcg_views.specs.Coordinate.{IsCoordinate, is_part_byte, is_bad, has_byte, none_bad, coordinate_of};
 
 use crate::name::Name;
 use crate::parting::part_at;
@@ -94,14 +94,23 @@ fn has_byte(part: &[u8]) -> bool
     !part.is_empty()
 }
 
-// The first rule that a text breaks.
+// The first byte that may not stand in a text, where that isn't too long.
+fn check_bytes(text: &[u8]) -> Result<(), CoordinateFault>
+    requires { length text.now ≤ 255 }
+    ensures { result ≡ none_bad (position is_bad text.now) }
+{
+    match find_bad_byte(text) {
+        Some(at) => Err(CoordinateFault::BadByte { offset: at as u32 }),
+        None => Ok(()),
+    }
+}
+
+// The first rule that a text breaks, where it isn't too long.
 #[tactic(auto, unfolding(crate::specs::Coordinate::coordinate_of))]
-fn check(text: &[u8]) -> Result<(), CoordinateFault>
+fn check_short(text: &[u8]) -> Result<(), CoordinateFault>
+    requires { length text.now ≤ 255 }
     ensures { seen (λ _. text.now) result ≡ coordinate_of text.now }
 {
-    if text.len() > MOST {
-        return Err(CoordinateFault::TooLong);
-    }
     let (group, rest) = part_at(text, b':').ok_or(CoordinateFault::Colons)?;
     let (artifact, version) = part_at(rest, b':').ok_or(CoordinateFault::Colons)?;
     if version.contains(&b':') {
@@ -110,10 +119,18 @@ fn check(text: &[u8]) -> Result<(), CoordinateFault>
     if !(has_byte(group) && has_byte(artifact) && has_byte(version)) {
         return Err(CoordinateFault::EmptyPart);
     }
-    match find_bad_byte(text) {
-        Some(at) => Err(CoordinateFault::BadByte { offset: at as u32 }),
-        None => Ok(()),
+    check_bytes(text)
+}
+
+// The first rule that a text breaks.
+#[tactic(auto, unfolding(crate::specs::Coordinate::coordinate_of))]
+fn check(text: &[u8]) -> Result<(), CoordinateFault>
+    ensures { seen (λ _. text.now) result ≡ coordinate_of text.now }
+{
+    if text.len() > MOST {
+        return Err(CoordinateFault::TooLong);
     }
+    check_short(text)
 }
 
 impl Coordinate {

@@ -1,9 +1,10 @@
 //! URIs of methods.
-ghost use Rattle.std.specs.Prelude.{◌≡◌, ◌++◌, ◌+◌, ◌<◌, ◌^◌, ℕ, List, length, OnOk, IfOk, IfSome, Result, Ok};
+ghost use Rattle.std.specs.Prelude.{◌≡◌, ◌++◌, ◌+◌, ◌<◌, ◌^◌, ℕ, List, length, codes, OnOk, IfOk, IfSome, Result, Ok};
 ghost use Rattle.std.specs.Option.{option_map};
 ghost use Rattle.fcg_grammar.specs.Reading.{seen, Gives};
 ghost use Rattle.fcg_views.specs.Coordinate.{IsCoordinate};
 ghost use Rattle.fcg_views.specs.Escape.{escaped, unescaped};
+ghost use Rattle.fcg_views.specs.Internal.UriParts.{desc_at, method_with};
 ghost use Rattle.fcg_views.specs.Uri.{Spells, Names, uri_text, with_dollar, fault, after_scheme, at_escape, broken_coordinate, coordinate_in, part_to, method_of, member_at, uri_of};
 
 use crate::coordinate::{Coordinate, CoordinateFault};
@@ -60,7 +61,7 @@ impl From<UriFault> for ReadError<UriFault> {
 }
 
 /// What a method is named by: its release, its class, and its name and descriptor there.
-#[derive(Clone, Drop, PartialEq)]
+#[derive(Drop, PartialEq)]
 pub struct MethodUri {
     pub coordinate: Coordinate,
     /// The binary name of the class in its internal form, as `java/lang/Object`.
@@ -68,6 +69,14 @@ pub struct MethodUri {
     pub name: Name,
     /// The method descriptor (JVMS 4.3.3).
     pub desc: Name,
+}
+
+// What a URI says after its coordinate.
+#[derive(Drop)]
+struct Member {
+    class: Name,
+    name: Name,
+    desc: Name,
 }
 
 // The fault at a place.
@@ -106,6 +115,17 @@ fn tell(
     }
 }
 
+// The text of a coordinate, of what stands before and after the `$` in its place.
+fn join_coordinate(alloc: Global, front: &[u8], version: &[u8]) -> Result<Vec<u8>, AllocError>
+    ensures { IfOk result (λ text. text.items ≡ front.now ++ (codes ":" ++ version.now)) }
+{
+    let mut text = Vec::new(alloc);
+    text.extend_from_slice(front)?;
+    text.push(b':')?;
+    text.extend_from_slice(version)?;
+    Ok(text)
+}
+
 // The coordinate that stands in a URI as these bytes.
 #[tactic(auto, unfolding(crate::specs::Uri::coordinate_in))]
 fn read_coordinate(alloc: Global, text: &[u8]) -> Result<Coordinate, ReadError<UriFault>>
@@ -115,11 +135,8 @@ fn read_coordinate(alloc: Global, text: &[u8]) -> Result<Coordinate, ReadError<U
     if version.contains(&b':') {
         return Err(ReadError::Fault(fault_at(COORDINATE_AT, UriRule::Coordinate)));
     }
-    let mut joined = Vec::new(alloc);
-    joined.extend_from_slice(front)?;
-    joined.push(b':')?;
-    joined.extend_from_slice(version)?;
-    tell(Coordinate::parse(alloc, &joined))
+    let text = join_coordinate(alloc, front, version)?;
+    tell(Coordinate::parse(alloc, &text))
 }
 
 // The part that goes up to a byte, and what follows that byte: it begins at a place of a text that has so many bytes.
@@ -152,51 +169,53 @@ fn read_name(
     }
 }
 
-// The method whose class begins at a place, where these are its parts, escaped.
+// The descriptor that a part of a URI is escaped from, which begins at a number.
+fn read_desc(alloc: Global, text: &[u8], at: usize) -> Result<Name, ReadError<UriFault>>
+    requires { at + length text.now < 2 ^ 64 }
+    ensures { Gives (λ desc. desc) result (desc_at at text.now) }
+{
+    let desc = read_name(alloc, Place::Desc, text, at)?;
+    if read_descriptor(desc.as_slice()).is_err() {
+        return Err(ReadError::Fault(fault_at(at, UriRule::Descriptor)));
+    }
+    Ok(desc)
+}
+
+// The class, the name and the descriptor of which these are the parts, escaped, where the class begins at a place.
 #[tactic(auto, unfolding(crate::specs::Uri::method_of))]
-fn read_method(
+fn read_parts(
     alloc: Global,
-    coordinate: Coordinate,
     at: usize,
     class: &[u8],
     name: &[u8],
     desc: &[u8],
-) -> Result<MethodUri, ReadError<UriFault>>
+) -> Result<Member, ReadError<UriFault>>
     requires { at + length class.now + 1 + length name.now + length desc.now < 2 ^ 64 }
-    ensures { Gives (λ u. u) result (method_of coordinate at class.now name.now desc.now) }
+    ensures { (coordinate : List ℕ) → Gives (method_with coordinate) result (method_of coordinate at class.now name.now desc.now) }
 {
     let name_at = at + class.len() + 1;
     let desc_at = name_at + name.len();
     let class = read_name(alloc, Place::Class, class, at)?;
     let name = read_name(alloc, Place::Member, name, name_at)?;
-    let desc = read_name(alloc, Place::Desc, desc, desc_at)?;
-    if read_descriptor(desc.as_slice()).is_err() {
-        return Err(ReadError::Fault(fault_at(desc_at, UriRule::Descriptor)));
-    }
-    Ok(MethodUri {
-        coordinate,
-        class,
-        name,
-        desc,
-    })
+    let desc = read_desc(alloc, desc, desc_at)?;
+    Ok(Member { class, name, desc })
 }
 
 // What follows the coordinate, where the class begins at a place of a text that has so many bytes.
 #[tactic(auto, unfolding(crate::specs::Uri::member_at))]
 fn read_member(
     alloc: Global,
-    coordinate: Coordinate,
     end: usize,
     at: usize,
     rest: &[u8],
-) -> Result<MethodUri, ReadError<UriFault>>
+) -> Result<Member, ReadError<UriFault>>
     requires { at + length rest.now ≡ end }
-    ensures { Gives (λ u. u) result (member_at coordinate end at rest.now) }
+    ensures { (coordinate : List ℕ) → Gives (method_with coordinate) result (member_at coordinate end at rest.now) }
 {
     let (class, after) = read_part(b'.', end, at, rest)?;
     let (name, _) = read_part(b'(', end, at + class.len() + 1, after)?;
     let (_, desc) = after.split_at(name.len());
-    read_method(alloc, coordinate, at, class, name, desc)
+    read_parts(alloc, at, class, name, desc)
 }
 
 #[tactic(auto, unfolding(crate::specs::Uri::uri_of))]
@@ -207,7 +226,13 @@ fn read_uri(alloc: Global, text: &[u8]) -> Result<MethodUri, ReadError<UriFault>
     let (front, after) = part_at(rest, b'/').ok_or(fault_at(text.len(), UriRule::Shape))?;
     let coordinate = read_coordinate(alloc, front)?;
     let at = COORDINATE_AT + front.len() + 1;
-    read_member(alloc, coordinate, text.len(), at, after)
+    let Member { class, name, desc } = read_member(alloc, text.len(), at, after)?;
+    Ok(MethodUri {
+        coordinate,
+        class,
+        name,
+        desc,
+    })
 }
 
 // Adds a coordinate to a URI, with `$` in place of its second colon.

@@ -20,6 +20,9 @@ returns-then-as_slice-gt-MOST_ENTRIES-clause-exact c =
     let r = c.in_ok-table.ensures in
     full_pool c.args.view.now said (let n = ap (λ (pool : List Entry). length pool) (c.as_slice-2.ensures ∙ r) in omega (arith, n))
 
+pub write_file-requires-clause-few : goal.write_file-requires-clause-few
+write_file-requires-clause-few c = let n = ap (λ (pool : List Entry). length pool) c.as_slice-2.ensures in omega (arith, n)
+
 pub write_file-requires-clause-short : goal.write_file-requires-clause-short
 write_file-requires-clause-short c =
     let said : IsSaid c.args.view.now = record { valid = c.requires.valid; named = c.requires.named; typed = c.requires.typed; kind = c.requires.kind; placed = c.requires.placed } in

@@ -1,0 +1,8 @@
+use Rattle.std.proofs.Common.{rules}
+use Rattle.fcg_views.proofs.uri.read_desc.Goals as goal
+
+pub returns-then-is_err : goal.returns-then-is_err
+returns-then-is_err c = search rules
+
+pub returns : goal.returns
+returns c = search rules

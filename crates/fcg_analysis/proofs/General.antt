@@ -4,3 +4,4 @@ pub mod Finding
 pub mod Ranges
 pub mod Sorted
 pub mod Walking
+pub mod Places

@@ -5,3 +5,4 @@ pub mod Ranges
 pub mod Sorted
 pub mod Walking
 pub mod Places
+pub mod Numbered

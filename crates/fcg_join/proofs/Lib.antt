@@ -8,3 +8,4 @@ pub mod MarkLaws
 pub mod KeyLists
 pub mod NumberLaws
 pub mod KnownMarks
+pub mod NodeNumbers

@@ -2,4 +2,5 @@ pub mod Winners
 pub mod TypeLinks
 pub mod TypeTables
 pub mod Names
+pub mod NodeTables
 pub mod Internal

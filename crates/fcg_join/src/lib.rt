@@ -6,6 +6,7 @@
 
 mod laws;
 mod names;
+mod node_laws;
 mod winners;
 
 pub use laws::{
@@ -13,4 +14,7 @@ pub use laws::{
     marks_are_upward, upward_tables, winners_by_numbers,
 };
 pub use names::{NameNumbers, number_names};
+pub use node_laws::{
+    declared_by_declarers, declarers_are_nodes, first_nodes_are_sums, owners_are_types,
+};
 pub use winners::mark_firsts;

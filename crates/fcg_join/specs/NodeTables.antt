@@ -1,0 +1,34 @@
+-- Nodes by their numbers: the first of each type, the type of each, and those that declare a signature.
+use Rattle.std.specs.Prelude.{◌≡◌, ℕ, ◌+◌, List, [], ◌∷◌, ◌++◌, Some, filter, length, map, replicate, slice_get, true}
+use Rattle.fcg_analysis.specs.Declarations.{Placed, Signature, has_signature}
+use Rattle.fcg_analysis.specs.Nodes.{Node, nodes}
+
+-- m has the number k: it stands at this place of the nodes
+abbrev pub HasNodeAt : List Placed → ℕ → Node → Type 0
+HasNodeAt types k m = slice_get (nodes types) k ≡ Some m
+
+-- of each type the number of its first node, the first of which is n
+abbrev pub first_nodes_from : ℕ → List Placed → List ℕ
+first_nodes_from n [] = []
+first_nodes_from n (t ∷ ts) = n ∷ first_nodes_from (n + length t.view.methods) ts
+
+abbrev pub first_nodes : List Placed → List ℕ
+first_nodes types = first_nodes_from 0 types
+
+-- of each node the number of its type, the first of which is x
+abbrev pub owners_from : ℕ → List Placed → List ℕ
+owners_from x [] = []
+owners_from x (t ∷ ts) = replicate (length t.view.methods) x ++ owners_from (x + 1) ts
+
+abbrev pub owners : List Placed → List ℕ
+owners types = owners_from 0 types
+
+-- the numbers of the nodes of a signature
+abbrev pub declarers : List Placed → Signature → List ℕ
+declarers types s = map (λ m. m.number) (filter (λ m. has_signature s m.method) (nodes types))
+
+-- a node of the signature has the number
+pub record IsDeclarer (types : List Placed) (s : Signature) (k : ℕ) : Type 0 where
+  pub node : Node
+  pub there : HasNodeAt types k node
+  pub signature : has_signature s node.method ≡ true

@@ -9,3 +9,7 @@ pub mod KeyLists
 pub mod NumberLaws
 pub mod KnownMarks
 pub mod NodeNumbers
+pub mod RowLaws
+pub mod MentionRows
+pub mod BelowLists
+pub mod SuperNumbers

@@ -1,6 +1,6 @@
 -- The tables of nodes, by numbers.
 use Rattle.std.proofs.Common.{◌≡◌, ◌≢◌, ℕ, zero, suc, ◌+◌, ◌-◌, ◌<◌, ◌≤◌, List, [], ◌∷◌, ◌++◌, length, take, get_or, replicate, append-nil, append_assoc, refl, sym, ap, subst, ◌∙◌, inl, inr, arith, eqb}
-use Rattle.std.specs.Prelude.{Bool, true, false, cond, ◌&&◌, ◌↔◌, All, Option, Some, None, option_map, find, filter, map, slice_get, Contains}
+use Rattle.std.specs.Prelude.{Bool, true, false, cond, ◌↔◌, All, Some, None, option_map, find, filter, slice_get, Contains}
 use Rattle.std.specs.List.{IsDistinct, range_with_len}
 use Rattle.std.specs.List.Sorted.{IsStrictlyIncreasing}
 use Rattle.std.specs.Cmp.{both_ways}
@@ -8,23 +8,21 @@ use Rattle.std.proofs.Math.Bool.{and_comm}
 use Rattle.std.proofs.lemmas.Bool.{false_from_ne_true}
 use Rattle.std.proofs.lemmas.Bool.Decides.{Decides-eqb}
 use Rattle.std.proofs.lemmas.List.{length-append, length-replicate, get_or_append_left, get_or-append-add, get_or-replicate, get_or_default}
-use Rattle.std.proofs.lemmas.List.Elements.{All-contains}
 use Rattle.std.proofs.lemmas.List.Kept.{IsStrictlyIncreasing-filter}
 use Rattle.std.proofs.lemmas.List.Sums.{sum_by-cons, sum_by_push}
-use Rattle.std.proofs.lemmas.Option.{slice_get_within, slice_get-get_or}
+use Rattle.std.proofs.lemmas.Option.{slice_get_within}
 use Rattle.fcg_analysis.specs.Declarations.{Placed, Signature, is_type, has_signature}
 use Rattle.fcg_analysis.specs.Nodes.{Node, nodes, declared}
 use Rattle.fcg_analysis.specs.Laws.Methods.{method_total, first_node, AreApart}
 use Rattle.fcg_join.specs.TypeLinks.{HasTypeAt}
-use Rattle.fcg_join.specs.NodeTables.{HasNodeAt, first_nodes_from, first_nodes, owners_from, owners, declarers, IsDeclarer}
+use Rattle.fcg_join.specs.NodeTables.{HasNodeAt, first_nodes_from, first_nodes, owners_from, owners, numbers_of, declarers, IsDeclarer}
 use Rattle.fcg_analysis.proofs.General.Members.{IsIn, IsIn-from_Contains, Contains-from_IsIn, filter_in, in_filter, map_in, in_map}
 use Rattle.fcg_analysis.proofs.General.Finding.{find_both}
-use Rattle.fcg_analysis.proofs.General.Numbered.{passes, passes_some, range_rises}
-use Rattle.fcg_analysis.proofs.General.Places.{member_at, same_at, some_at, place_of_member}
-use Rattle.fcg_analysis.proofs.General.Ranges.{range_in, in_range}
-use Rattle.fcg_analysis.proofs.NodeLaws.{numbers_are_places, number_small}
+use Rattle.fcg_analysis.proofs.General.Numbered.{passes, range_rises}
+use Rattle.fcg_analysis.proofs.General.Places.{member_at, same_at, some_at}
+use Rattle.fcg_analysis.proofs.NodeLaws.{numbers_are_places}
 use Rattle.fcg_analysis.proofs.NodePlaces.{count_is, of_method_at, number_is_place}
-use Rattle.fcg_analysis.proofs.NodeMembers.{node_method, declared_own}
+use Rattle.fcg_analysis.proofs.NodeMembers.{declared_own}
 use Rattle.fcg_analysis.proofs.DeclaredPlaces.{of_node, none_of_nodes}
 use Rattle.fcg_analysis.proofs.TableLaws.{numbers_kept}
 use Rattle.fcg_analysis.proofs.OverrideLaws.{one_of_name}
@@ -145,37 +143,34 @@ owners_within types k d l =
 
 -- ---- nodes that pass a test, by their numbers
 
-abbrev pub numbers : List Node → List ℕ
-numbers ms = map (λ m. m.number) ms
-
 module _ (types : List Placed) (p : Node → Bool) where
-  pub passing_in : (k : ℕ) (m : Node) → HasNodeAt types k m → p m ≡ true → Contains (numbers (filter p (nodes types))) k
+  pub passing_in : (k : ℕ) (m : Node) → HasNodeAt types k m → p m ≡ true → Contains (numbers_of (filter p (nodes types))) k
   passing_in k m h t =
       let i : IsIn m (nodes types) = IsIn-from_Contains _ m (member_at (nodes types) k m h) in
       let n : m.number ≡ k = (of_method_at types k m h).number in
-      subst (Contains (numbers (filter p (nodes types)))) n (Contains-from_IsIn _ m.number (map_in (λ m. m.number) (filter p (nodes types)) m (filter_in p (nodes types) m i t)))
+      subst (Contains (numbers_of (filter p (nodes types)))) n (Contains-from_IsIn _ m.number (map_in (λ m. m.number) (filter p (nodes types)) m (filter_in p (nodes types) m i t)))
 
-  pub in_passing : (k : ℕ) → Contains (numbers (filter p (nodes types))) k → (m : Node) × HasNodeAt types k m × (p m ≡ true)
+  pub in_passing : (k : ℕ) → Contains (numbers_of (filter p (nodes types))) k → (m : Node) × HasNodeAt types k m × (p m ≡ true)
   in_passing k c =
       let r = in_map (λ m. m.number) (filter p (nodes types)) k (IsIn-from_Contains _ k c) in
       let f = in_filter p (nodes types) r.0 r.1 in
       (r.0, subst (λ j. HasNodeAt types j r.0) r.2 (number_is_place types r.0 (Contains-from_IsIn _ r.0 f.0)), f.1)
 
   -- they are those of the numbers below the count whose nodes pass
-  pub passing_numbers : (q : ℕ → Bool) → ((k : ℕ) (m : Node) → HasNodeAt types k m → q k ≡ p m) → numbers (filter p (nodes types)) ≡ filter q (range_with_len 0 (length (nodes types)))
+  pub passing_numbers : (q : ℕ → Bool) → ((k : ℕ) (m : Node) → HasNodeAt types k m → q k ≡ p m) → numbers_of (filter p (nodes types)) ≡ filter q (range_with_len 0 (length (nodes types)))
   passing_numbers q agrees =
       sym (numbers_kept p q (nodes types) (λ m i. agrees m.number m (number_is_place types m (Contains-from_IsIn _ m i))))
       ∙ ap (filter q) (numbers_are_places types)
 
-  pub passing_rise : IsStrictlyIncreasing (numbers (filter p (nodes types)))
+  pub passing_rise : IsStrictlyIncreasing (numbers_of (filter p (nodes types)))
   passing_rise =
       subst (λ ks. IsStrictlyIncreasing ks) (sym (passing_numbers (λ k. passes p (slice_get (nodes types) k)) (λ k m h. ap (passes p) h)))
       (IsStrictlyIncreasing-filter (λ k. passes p (slice_get (nodes types) k)) (range_with_len 0 (length (nodes types))) (range_rises 0 (length (nodes types))))
 
-  pub passing_within : All (λ k. k < length (nodes types)) (numbers (filter p (nodes types)))
+  pub passing_within : All (λ k. k < length (nodes types)) (numbers_of (filter p (nodes types)))
   passing_within k d l =
-      let j = get_or (numbers (filter p (nodes types))) k d in
-      let e : get_or (numbers (filter p (nodes types))) k j ≡ j = sym (get_or_default (numbers (filter p (nodes types))) k d j l) in
+      let j = get_or (numbers_of (filter p (nodes types))) k d in
+      let e : get_or (numbers_of (filter p (nodes types))) k j ≡ j = sym (get_or_default (numbers_of (filter p (nodes types))) k d j l) in
       let r = in_passing j (k, l, e) in
       slice_get_within (nodes types) j r.0 r.1
 
@@ -197,12 +192,12 @@ declarers_by_numbers types s signatures number h =
     (λ e. (Decides-eqb (get_or signatures k 0) number).1 ((h k m a).1 e)))
 
 -- what is found first, by numbers
-find_number : (b : Node → Bool) (q : ℕ → Bool) (ms : List Node) → ((m : Node) → IsIn m ms → q m.number ≡ b m) → option_map (λ m. m.number) (find b ms) ≡ find q (numbers ms)
+pub find_number : (b : Node → Bool) (q : ℕ → Bool) (ms : List Node) → ((m : Node) → IsIn m ms → q m.number ≡ b m) → option_map (λ m. m.number) (find b ms) ≡ find q (numbers_of ms)
 find_number b q [] h = refl
 find_number b q (m ∷ ms) h =
-    at (b m) (find_number b q ms (λ n i. h n (inr i))) ∙ ap (λ v. cond v (Some m.number) (find q (numbers ms))) (sym (h m (inl refl)))
+    at (b m) (find_number b q ms (λ n i. h n (inr i))) ∙ ap (λ v. cond v (Some m.number) (find q (numbers_of ms))) (sym (h m (inl refl)))
   where
-    at : (v : Bool) → option_map (λ m. m.number) (find b ms) ≡ find q (numbers ms) → option_map (λ m. m.number) (cond v (Some m) (find b ms)) ≡ cond v (Some m.number) (find q (numbers ms))
+    at : (v : Bool) → option_map (λ m. m.number) (find b ms) ≡ find q (numbers_of ms) → option_map (λ m. m.number) (cond v (Some m) (find b ms)) ≡ cond v (Some m.number) (find q (numbers_of ms))
     at true r = refl
     at false r = r
 

@@ -1,11 +1,18 @@
 -- Nodes by their numbers: the first of each type, the type of each, and those that declare a signature.
-use Rattle.std.specs.Prelude.{◌≡◌, ℕ, ◌+◌, List, [], ◌∷◌, ◌++◌, Some, filter, length, map, replicate, slice_get, true}
+use Rattle.std.specs.Prelude.{◌≡◌, ℕ, ◌+◌, List, [], ◌∷◌, ◌++◌, Option, Some, None, filter, length, map, replicate, slice_get, true}
 use Rattle.fcg_analysis.specs.Declarations.{Placed, Signature, has_signature}
 use Rattle.fcg_analysis.specs.Nodes.{Node, nodes}
 
 -- m has the number k: it stands at this place of the nodes
 abbrev pub HasNodeAt : List Placed → ℕ → Node → Type 0
 HasNodeAt types k m = slice_get (nodes types) k ≡ Some m
+
+-- a number is that of a node, or there is neither
+abbrev pub IsNumberOf : List Placed → Option ℕ → Option Node → Type 0
+IsNumberOf types None None = Unit {0}
+IsNumberOf types None (Some m) = ⊥
+IsNumberOf types (Some k) None = ⊥
+IsNumberOf types (Some k) (Some m) = HasNodeAt types k m
 
 -- of each type the number of its first node, the first of which is n
 abbrev pub first_nodes_from : ℕ → List Placed → List ℕ
@@ -23,9 +30,12 @@ owners_from x (t ∷ ts) = replicate (length t.view.methods) x ++ owners_from (x
 abbrev pub owners : List Placed → List ℕ
 owners types = owners_from 0 types
 
+abbrev pub numbers_of : List Node → List ℕ
+numbers_of ms = map (λ m. m.number) ms
+
 -- the numbers of the nodes of a signature
 abbrev pub declarers : List Placed → Signature → List ℕ
-declarers types s = map (λ m. m.number) (filter (λ m. has_signature s m.method) (nodes types))
+declarers types s = numbers_of (filter (λ m. has_signature s m.method) (nodes types))
 
 -- a node of the signature has the number
 pub record IsDeclarer (types : List Placed) (s : Signature) (k : ℕ) : Type 0 where

@@ -7,6 +7,7 @@
 mod laws;
 mod names;
 mod node_laws;
+mod table_laws;
 mod winners;
 
 pub use laws::{
@@ -15,6 +16,11 @@ pub use laws::{
 };
 pub use names::{NameNumbers, number_names};
 pub use node_laws::{
-    declared_by_declarers, declarers_are_nodes, first_nodes_are_sums, owners_are_types,
+    declared_by_declarers, declarers_are_nodes, first_nodes_are_sums, found_nodes_have_numbers,
+    owners_are_types, super_methods_by_declarers,
+};
+pub use table_laws::{
+    below_by_rows, below_in_order, interfaces_above_by_rows, mentions_are_numbered,
+    rows_are_joined_upward,
 };
 pub use winners::mark_firsts;

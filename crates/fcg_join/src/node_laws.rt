@@ -1,13 +1,15 @@
-//! Laws between nodes and tables by their numbers: the first node of each type, the type of each node, and the nodes that
-//! declare a signature.
-ghost use Rattle.std.specs.Prelude.{◌≡◌, ◌≢◌, ◌↔◌, ◌+◌, ◌<◌, ◌≤◌, ◌==◌, ℕ, true, List, [], ◌∷◌, ◌++◌, Contains, All, Some, None, filter, find, length, option_map, replicate, slice_index_or};
-ghost use Rattle.std.specs.List.{IsDistinct, range_with_len};
+//! Laws between nodes and tables by their numbers: the first node of each type, the type of each node, the nodes that declare a
+//! signature, and the superinterface methods among these.
+ghost use Rattle.std.specs.Prelude.{◌≡◌, ◌≢◌, ◌↔◌, ◌+◌, ◌<◌, ◌≤◌, ◌==◌, ℕ, true, List, [], ◌∷◌, ◌++◌, Bool, not, ◌&&◌, ◌||◌, Contains, All, Option, Some, None, filter, find, length, option_map, replicate, slice_index_or};
+ghost use Rattle.std.specs.List.{IsDistinct, list_any, range_with_len};
 ghost use Rattle.std.specs.List.Sorted.{IsStrictlyIncreasing};
-ghost use Rattle.fcg_analysis.specs.Declarations.{Placed, Signature, is_type, has_signature};
-ghost use Rattle.fcg_analysis.specs.Nodes.{Node, nodes, declared};
+ghost use Rattle.fcg_analysis.specs.NamesAndFlags.{first_of_list, one};
+ghost use Rattle.fcg_analysis.specs.Declarations.{Placed, Signature, is_type, is_interface, is_private, is_static, is_abstract, has_signature};
+ghost use Rattle.fcg_analysis.specs.Types.{is_above};
+ghost use Rattle.fcg_analysis.specs.Nodes.{Node, nodes, declared, super_methods, specific, one_default, first_super_method};
 ghost use Rattle.fcg_analysis.specs.Laws.Methods.{method_total, first_node, AreApart};
 ghost use Rattle.fcg_join.specs.TypeLinks.{HasTypeAt};
-ghost use Rattle.fcg_join.specs.NodeTables.{HasNodeAt, first_nodes, owners, declarers, IsDeclarer};
+ghost use Rattle.fcg_join.specs.NodeTables.{HasNodeAt, IsNumberOf, first_nodes, owners, numbers_of, declarers, IsDeclarer};
 
 /// The first nodes of the types are the sums of the methods before.
 pub fn first_nodes_are_sums()
@@ -44,4 +46,32 @@ pub fn declared_by_declarers()
     ensures none { (types : List Placed) → IsDistinct is_type types → (s : Signature) (x : ℕ) (t : Placed) → HasTypeAt types x t → ((k : ℕ) → Contains (declarers types s) k → slice_index_or (owners types) k 0 ≢ x)
         → declared types s t ≡ None }
     ensures number { (types : List Placed) → IsDistinct is_type types → (s : Signature) (k : ℕ) (t : Placed) (m : Node) → Contains types t → declared types s t ≡ Some m → m.number ≡ k → HasNodeAt types k m × Contains (declarers types s) k }
+{}
+
+/// The superinterface methods of a type and a signature are the declarers that are neither private nor static and whose owners are
+/// interfaces above the type, in their order; the maximally-specific ones are those below whose owner is no owner of these; the
+/// one default is the only one of them that isn't abstract; and the first is the first that passes.
+pub fn super_methods_by_declarers()
+    ensures members { (types : List Placed) (t : Placed) (s : Signature) (passes : ℕ → Bool)
+        → ((k : ℕ) (m : Node) → HasNodeAt types k m → has_signature s m.method ≡ true → passes k ≡ (not (is_private m.method || is_static m.method) && (is_interface m.owner && is_above types t m.owner)))
+        → numbers_of (super_methods types t s) ≡ filter passes (declarers types s) }
+    ensures first { (types : List Placed) (t : Placed) (s : Signature) (passes : ℕ → Bool)
+        → ((k : ℕ) (m : Node) → HasNodeAt types k m → has_signature s m.method ≡ true → passes k ≡ (not (is_private m.method || is_static m.method) && (is_interface m.owner && is_above types t m.owner)))
+        → option_map (λ m. m.number) (first_super_method types t s) ≡ find passes (declarers types s) }
+    ensures first_of_all { (types : List Placed) (t : Placed) (s : Signature) → option_map (λ m. m.number) (first_super_method types t s) ≡ first_of_list (numbers_of (super_methods types t s)) }
+    ensures specific { (types : List Placed) (t : Placed) (s : Signature) (below : ℕ → ℕ → Bool)
+        → ((j k : ℕ) (o m : Node) → HasNodeAt types j o → HasNodeAt types k m → Contains (super_methods types t s) o → Contains (super_methods types t s) m → below j k ≡ is_above types o.owner m.owner)
+        → numbers_of (specific types t s) ≡ filter (λ k. not (list_any (λ j. below j k) (numbers_of (super_methods types t s)))) (numbers_of (super_methods types t s)) }
+    ensures default { (types : List Placed) (t : Placed) (s : Signature) (below : ℕ → ℕ → Bool) (abstract_at : ℕ → Bool)
+        → ((j k : ℕ) (o m : Node) → HasNodeAt types j o → HasNodeAt types k m → Contains (super_methods types t s) o → Contains (super_methods types t s) m → below j k ≡ is_above types o.owner m.owner)
+        → ((k : ℕ) (m : Node) → HasNodeAt types k m → abstract_at k ≡ is_abstract m.method)
+        → option_map (λ m. m.number) (one_default types t s)
+        ≡ one (filter (λ k. not (abstract_at k)) (filter (λ k. not (list_any (λ j. below j k) (numbers_of (super_methods types t s)))) (numbers_of (super_methods types t s)))) }
+{}
+
+/// What is found by its number stands there among the nodes.
+pub fn found_nodes_have_numbers()
+    ensures declared { (types : List Placed) (s : Signature) (t : Placed) (found : Option ℕ) → option_map (λ m. m.number) (declared types s t) ≡ found → IsNumberOf types found (declared types s t) }
+    ensures default { (types : List Placed) (t : Placed) (s : Signature) (found : Option ℕ) → option_map (λ m. m.number) (one_default types t s) ≡ found → IsNumberOf types found (one_default types t s) }
+    ensures first { (types : List Placed) (t : Placed) (s : Signature) (found : Option ℕ) → option_map (λ m. m.number) (first_super_method types t s) ≡ found → IsNumberOf types found (first_super_method types t s) }
 {}

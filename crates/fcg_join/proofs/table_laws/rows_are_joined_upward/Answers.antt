@@ -1,0 +1,8 @@
+use Rattle.fcg_join.proofs.RowLaws.{joined_row, joined_rows}
+use Rattle.fcg_join.proofs.table_laws.rows_are_joined_upward.Goals as goal
+
+pub returns-clause-step : goal.returns-clause-step
+returns-clause-step c = λ types links own rows says h o x t numbers a b j. joined_row types links h says own o rows x t numbers a b j
+
+pub returns-clause-each : goal.returns-clause-each
+returns-clause-each c = λ types links own rows says a h o j x t i. joined_rows types links h says own o a rows j x t i

@@ -13,10 +13,9 @@ use Rattle.fcg_analysis.specs.Declarations.{Placed, object_name, is_type, is_cla
 use Rattle.fcg_analysis.specs.Types.{links, extends, implements, superclass, chain, object, type_named, is_below}
 use Rattle.fcg_analysis.specs.Laws.Statements.{IsAcyclic, chain_above}
 use Rattle.fcg_analysis.specs.Laws.ByName.{is_below_itself}
-use Rattle.fcg_order.specs.Links.{row}
 use Rattle.fcg_join.specs.Names.{text_at}
 use Rattle.fcg_join.specs.TypeLinks.{HasTypeAt}
-use Rattle.fcg_join.specs.TypeTables.{mentions_at, is_class_name, HasNames, IsUpwardRow, AreSubclasses}
+use Rattle.fcg_join.specs.TypeTables.{mentions_at, is_class_name, HasNames, AreUpwardRows, AreSubclasses}
 use Rattle.fcg_analysis.proofs.General.Members.{IsIn-from_Contains, Contains-from_IsIn, any_in, in_any, in_filter, find_in}
 use Rattle.fcg_analysis.proofs.General.Finding.{filter_alike, filter_all}
 use Rattle.fcg_analysis.proofs.General.Numbered.{passes, rising_passing, range_rises}
@@ -50,20 +49,20 @@ object_listed types =
     ∙ ap (map Some) (filter_all (λ t. true) types (λ t i. refl) ∙ sym (all_below_object types))
 
 module _ (names : List (List ℕ)) (types : List Placed) where
-  pub listed_by_rows : (rows : List (List ℕ)) → ((x : ℕ) (t : Placed) → HasTypeAt types x t → IsUpwardRow types (mentions_at names types) t (row rows x))
+  pub listed_by_rows : (rows : ℕ → List ℕ) → AreUpwardRows types (mentions_at names types) rows
       → (n : ℕ) (numbers : List ℕ) → n < length names → is_class_name types (text_at names n) ≡ false → same (text_at names n) object_name ≡ false
-      → IsStrictlyIncreasing numbers → All (λ x. x < length types) numbers → ((x : ℕ) → x < length types → Contains numbers x ↔ Contains (row rows x) n)
+      → IsStrictlyIncreasing numbers → All (λ x. x < length types) numbers → ((x : ℕ) → x < length types → Contains numbers x ↔ Contains (rows x) n)
       → map (slice_get types) numbers ≡ map Some (filter (λ t. is_below types t (text_at names n)) types)
   listed_by_rows rows up n numbers l other not_object s w h = below_listed types (text_at names n) numbers s w each
     where
-      says : (x : ℕ) (t : Placed) → HasTypeAt types x t → is_below types t (text_at names n) ≡ list_any (λ k. eqb k n) (row rows x)
-      says x t a = below_by_row names types t (row rows x) (up x t a) n l other ∙ ap (λ b. b || list_any (λ k. eqb k n) (row rows x)) not_object
+      says : (x : ℕ) (t : Placed) → HasTypeAt types x t → is_below types t (text_at names n) ≡ list_any (λ k. eqb k n) (rows x)
+      says x t a = below_by_row names types t (rows x) (up x t a) n l other ∙ ap (λ b. b || list_any (λ k. eqb k n) (rows x)) not_object
 
       each : (x : ℕ) (t : Placed) → HasTypeAt types x t → Contains numbers x ↔ (is_below types t (text_at names n) ≡ true)
       each x t a =
           let i = h x (slice_get_within types x t a) in (
-            λ c. says x t a ∙ (any_number n (row rows x)).1 (i.0 c),
-            λ e. i.1 ((any_number n (row rows x)).0 (sym (says x t a) ∙ e)),
+            λ c. says x t a ∙ (any_number n (rows x)).1 (i.0 c),
+            λ e. i.1 ((any_number n (rows x)).0 (sym (says x t a) ∙ e)),
           )
 
   pub unmentioned_listed : HasNames names types → (n : List ℕ) → (Contains names n → ⊥) → same n object_name ≡ false → filter (λ t. is_below types t n) types ≡ []

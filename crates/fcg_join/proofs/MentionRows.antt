@@ -15,12 +15,15 @@ use Rattle.fcg_analysis.specs.Declarations.{Placed, object_name, is_named, is_ty
 use Rattle.fcg_analysis.specs.Types.{links, above, is_above, type_named, is_below}
 use Rattle.fcg_analysis.specs.Laws.Statements.{IsAcyclic}
 use Rattle.fcg_join.specs.Names.{text_at}
-use Rattle.fcg_join.specs.TypeTables.{mentions, mentions_at, is_class_name, own_mentions, HasNames, IsUpwardRow}
+use Rattle.fcg_join.specs.TypeLinks.{HasTypeAt}
+use Rattle.fcg_join.specs.TypeTables.{mentions, mentions_at, is_class_name, own_mentions, HasNames, AreTypeNames, IsUpwardRow, AreUpwardRows}
 use Rattle.fcg_analysis.proofs.General.Members.{IsIn, IsIn-from_Contains, Contains-from_IsIn, and_first, and_second, any_in, in_any, find_none, filter_in, in_filter, map_in, in_map, append_left, append_right, in_append}
 use Rattle.fcg_analysis.proofs.General.Walking.{walk_from_led, walk_end}
+use Rattle.fcg_analysis.proofs.General.Places.{same_at}
 use Rattle.fcg_analysis.proofs.NameLaws.{below_put, find_type, not_circular}
 use Rattle.fcg_analysis.proofs.OverrideLaws.{one_of_name}
-use Rattle.fcg_analysis.proofs.WinnerLaws.{is_type_self}
+use Rattle.fcg_analysis.proofs.WinnerLaws.{is_type_self, is_type_back}
+use Rattle.fcg_join.proofs.Places.{has_in, one_place}
 
 -- ---- a row has a number
 
@@ -191,3 +194,20 @@ module _ (names : List (List ℕ)) (types : List Placed) (acyclic : IsAcyclic ty
           let same_type : u ≡ t = one_of_name types u t distinct (IsIn-from_Contains types u d) (IsIn-from_Contains types t c) q in
           ap (is_above types t) same_type ∙ not_circular types distinct t c (acyclic t c)
       at false q = refl
+
+-- types of one number are one
+pub same_number : (types : List Placed) → IsDistinct is_type types → (x y : ℕ) (t u : Placed) → HasTypeAt types x t → HasTypeAt types y u → is_type t u ≡ eqb x y
+same_number types d x y t u a b = both_ways (is_type t u) (eqb x y)
+    (λ e. (let same_type : t ≡ u = one_of_name types t u d (IsIn-from_Contains types t (has_in types x t a)) (IsIn-from_Contains types u (has_in types y u b)) e in
+    (Decides-eqb x y).1 (one_place types x y u d (subst (HasTypeAt types x) same_type a) b)))
+    (λ e. (let n : x ≡ y = (Decides-eqb x y).0 e in
+    let same_type : t ≡ u = same_at types y t u (subst (λ k. HasTypeAt types k t) n a) b in
+    ap (is_type t) (sym same_type) ∙ is_type_self t))
+
+pub interface_by_numbers : (names : List (List ℕ)) (types : List Placed) → IsAcyclic types → IsDistinct is_type types → (rows : ℕ → List ℕ) (name_at : ℕ → ℕ)
+    → AreUpwardRows types (mentions_at names types) rows → AreTypeNames names types name_at
+    → (x y : ℕ) (t u : Placed) → HasTypeAt types x t → HasTypeAt types y u → is_interface u ≡ true → is_above types t u ≡ (not (eqb x y) && list_any (λ k. eqb k (name_at y)) (rows x))
+interface_by_numbers names types a d rows name_at up named x y t u h i k =
+    let n = named y u i in
+    interface_by_row names types a d t u (name_at y) (rows x) (has_in types x t h) (has_in types y u i) k n.0 n.1 (up x t h)
+    ∙ ap (λ b. not b && list_any (λ k. eqb k (name_at y)) (rows x)) (is_type_back u t ∙ same_number types d x y t u h i)

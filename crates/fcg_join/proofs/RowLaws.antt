@@ -8,7 +8,7 @@ use Rattle.fcg_analysis.specs.Walks.{step}
 use Rattle.fcg_analysis.specs.Declarations.{Placed}
 use Rattle.fcg_analysis.specs.Types.{links, above}
 use Rattle.fcg_analysis.specs.Laws.Statements.{IsAcyclic}
-use Rattle.fcg_order.specs.Links.{row, HasLink}
+use Rattle.fcg_order.specs.Links.{HasLink}
 use Rattle.fcg_join.specs.TypeLinks.{HasTypeAt, HasLinks}
 use Rattle.fcg_join.specs.TypeTables.{HasOwnRows, IsUpwardRow, IsJoinedRow, AreJoined}
 use Rattle.fcg_analysis.proofs.General.Members.{Contains-from_IsIn, IsIn-from_Contains, any_in, in_any, and_first, and_second}
@@ -17,7 +17,7 @@ use Rattle.fcg_analysis.proofs.LineLaws.{height, height_less, height_small}
 use Rattle.fcg_join.proofs.Places.{place_of, has_in}
 use Rattle.fcg_join.proofs.Circles.{some_type}
 
-module _ (types : List Placed) (rows : List (List ℕ)) (h : HasLinks types rows) (says : ℕ → Placed → Bool) (own : List (List ℕ)) (starts : HasOwnRows types says own) where
+module _ (types : List Placed) (rows : List (List ℕ)) (h : HasLinks types rows) (says : ℕ → Placed → Bool) (own : ℕ → List ℕ) (starts : HasOwnRows types says own) where
   -- t has a number, or a type above it, or one to which t links has it or has a type above it that does
   abbrev says_at : ℕ → Placed → Bool
   says_at n t = says n t || list_any (says n) (above types t)
@@ -26,8 +26,8 @@ module _ (types : List Placed) (rows : List (List ℕ)) (h : HasLinks types rows
   unfolding above
   goes_on n t = any_led_goes_on links types (says n) t
 
-  pub joined_row : (joined : List (List ℕ)) (x : ℕ) (t : Placed) (numbers : List ℕ) → HasTypeAt types x t
-      → ((y : ℕ) (u : Placed) → HasLink rows x y → HasTypeAt types y u → IsUpwardRow types says u (row joined y))
+  pub joined_row : (joined : ℕ → List ℕ) (x : ℕ) (t : Placed) (numbers : List ℕ) → HasTypeAt types x t
+      → ((y : ℕ) (u : Placed) → HasLink rows x y → HasTypeAt types y u → IsUpwardRow types says u (joined y))
       → IsJoinedRow rows own joined x numbers → IsUpwardRow types says t numbers
   joined_row joined x t numbers a before j n = (forth, back)
     where
@@ -52,18 +52,18 @@ module _ (types : List Placed) (rows : List (List ℕ)) (h : HasLinks types rows
                 (j n).1 (inr (p.0, l, (before p.0 u.0 l p.1 n).1 (and_second (links t u.0) (says_at n u.0) u.2))))
           ]
 
-  module _ (acyclic : IsAcyclic types) (joined : List (List ℕ)) (each : AreJoined rows own joined) where
-    joined_below : (k x : ℕ) (t : Placed) → HasTypeAt types x t → height types acyclic t < k → IsUpwardRow types says t (row joined x)
+  module _ (acyclic : IsAcyclic types) (joined : ℕ → List ℕ) (each : AreJoined rows own joined) where
+    joined_below : (k x : ℕ) (t : Placed) → HasTypeAt types x t → height types acyclic t < k → IsUpwardRow types says t (joined x)
     joined_below zero x t a l = absurd (omega arith)
     joined_below (suc k) x t a l =
-        joined_row joined x t (row joined x) a (lower (joined_below k)) (each.each x (subst (λ n. x < n) (sym h.long) (slice_get_within types x t a)))
+        joined_row joined x t (joined x) a (lower (joined_below k)) (each x (subst (λ n. x < n) (sym h.long) (slice_get_within types x t a)))
       where
-        lower : ((y : ℕ) (u : Placed) → HasTypeAt types y u → height types acyclic u < k → IsUpwardRow types says u (row joined y))
-            → (y : ℕ) (u : Placed) → HasLink rows x y → HasTypeAt types y u → IsUpwardRow types says u (row joined y)
+        lower : ((y : ℕ) (u : Placed) → HasTypeAt types y u → height types acyclic u < k → IsUpwardRow types says u (joined y))
+            → (y : ℕ) (u : Placed) → HasLink rows x y → HasTypeAt types y u → IsUpwardRow types says u (joined y)
         lower r y u m b =
             let d = has_in types y u b in
             let less : height types acyclic u < height types acyclic t = height_less types acyclic u t (step d ((h.each x y t u a b).0 m)) d in
             r y u b (omega arith)
 
-    pub joined_rows : (x : ℕ) (t : Placed) → HasTypeAt types x t → IsUpwardRow types says t (row joined x)
+    pub joined_rows : (x : ℕ) (t : Placed) → HasTypeAt types x t → IsUpwardRow types says t (joined x)
     joined_rows x t a = joined_below (length types) x t a (height_small types acyclic t (has_in types x t a))

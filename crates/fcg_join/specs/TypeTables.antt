@@ -5,7 +5,7 @@ use Rattle.fcg_grammar.specs.Table.{Rises, place}
 use Rattle.fcg_analysis.specs.NamesAndFlags.{contains}
 use Rattle.fcg_analysis.specs.Declarations.{Placed, is_named, is_type, is_class, is_interface, names_of}
 use Rattle.fcg_analysis.specs.Types.{links, above, superclass, type_named}
-use Rattle.fcg_order.specs.Links.{row, HasLink}
+use Rattle.fcg_order.specs.Links.{HasLink}
 use Rattle.fcg_join.specs.Names.{text_at}
 use Rattle.fcg_join.specs.TypeLinks.{HasTypeAt}
 
@@ -23,24 +23,25 @@ mark_of (x ∷ xs) (m ∷ ms) t = if is_type x t then m else mark_of xs ms t
 abbrev pub mentions : List Placed → List ℕ → Placed → Bool
 mentions types n t = is_named n t || is_none (type_named types n) && contains n (names_of t)
 
--- ---- Rows of numbers. `says n t` is whether t has the number n of its own.
+-- ---- Rows of numbers, by the types' numbers. `says n t` is whether t has the number n of its own.
 
 -- each row has the numbers that its type has of its own
-abbrev pub HasOwnRows : List Placed → (ℕ → Placed → Bool) → List (List ℕ) → Type 0
-HasOwnRows types says own = (x : ℕ) (t : Placed) → HasTypeAt types x t → (n : ℕ) → Contains (row own x) n ↔ (says n t ≡ true)
+abbrev pub HasOwnRows : List Placed → (ℕ → Placed → Bool) → (ℕ → List ℕ) → Type 0
+HasOwnRows types says own = (x : ℕ) (t : Placed) → HasTypeAt types x t → (n : ℕ) → Contains (own x) n ↔ (says n t ≡ true)
 
 -- a row for t has the numbers that t, or a type above it, has of its own
 abbrev pub IsUpwardRow : List Placed → (ℕ → Placed → Bool) → Placed → List ℕ → Type 0
 IsUpwardRow types says t numbers = (n : ℕ) → Contains numbers n ↔ ((says n t || list_any (says n) (above types t)) ≡ true)
 
--- a row for x has its own numbers, and those of the rows to which x links
-abbrev pub IsJoinedRow : List (List ℕ) → List (List ℕ) → List (List ℕ) → ℕ → List ℕ → Type 0
-IsJoinedRow links own rows x numbers = (n : ℕ) → Contains numbers n ↔ (Contains (row own x) n ⊎ ((y : ℕ) × HasLink links x y × Contains (row rows y) n))
+abbrev pub AreUpwardRows : List Placed → (ℕ → Placed → Bool) → (ℕ → List ℕ) → Type 0
+AreUpwardRows types says rows = (x : ℕ) (t : Placed) → HasTypeAt types x t → IsUpwardRow types says t (rows x)
 
--- each row does
-pub record AreJoined (links own rows : List (List ℕ)) : Type 0 where
-  pub long : length rows ≡ length links
-  pub each : (x : ℕ) → x < length links → IsJoinedRow links own rows x (row rows x)
+-- a row for x has its own numbers, and those of the rows to which x links
+abbrev pub IsJoinedRow : List (List ℕ) → (ℕ → List ℕ) → (ℕ → List ℕ) → ℕ → List ℕ → Type 0
+IsJoinedRow links own rows x numbers = (n : ℕ) → Contains numbers n ↔ (Contains (own x) n ⊎ ((y : ℕ) × HasLink links x y × Contains (rows y) n))
+
+abbrev pub AreJoined : List (List ℕ) → (ℕ → List ℕ) → (ℕ → List ℕ) → Type 0
+AreJoined links own rows = (x : ℕ) → x < length links → IsJoinedRow links own rows x (rows x)
 
 -- ---- Rows of mentions: of each type the numbers of the interfaces at or above it, and of the absent names that it uses or
 -- that a type above it uses.
@@ -64,6 +65,10 @@ pub record HasNames (names : List (List ℕ)) (types : List Placed) : Type 0 whe
   pub of_type : (t : Placed) → Contains types t → Contains names t.view.name
   pub used : (t : Placed) (n : List ℕ) → Contains types t → Contains (names_of t) n → Contains names n
   pub rise : Rises names
+
+-- of each type the number of its name
+abbrev pub AreTypeNames : List (List ℕ) → List Placed → (ℕ → ℕ) → Type 0
+AreTypeNames names types name_at = (x : ℕ) (t : Placed) → HasTypeAt types x t → (name_at x < length names) × (text_at names (name_at x) ≡ t.view.name)
 
 -- ---- Subclasses. The numbers have that of a class and those of its subclasses, of theirs, and so on.
 pub record AreSubclasses (types : List Placed) (x : ℕ) (numbers : List ℕ) : Type 0 where

@@ -37,19 +37,19 @@ one_extended t u v h k =
         let b : v.view.name ≡ n = (bytes_decides v.view.name n).0 (sym (or-false (same v.view.name n)) ∙ f) in
         (bytes_decides u.view.name v.view.name).1 (a ∙ sym b)
 
-module _ (types : List Placed) (acyclic : IsAcyclic types) (distinct : IsDistinct is_type types) where
-  -- the class that a type extends is its superclass, and next in its chain
-  superclass_is : (t s : Placed) → Contains types s → extends t s ≡ true → superclass types t ≡ Some s
-  superclass_is t s c h =
-      let i = IsIn-from_Contains types s c in
-      find_only (extends t) types s i h (λ u k e. one_of_name types u s distinct k i (one_extended t u s e h))
+-- the class that a type extends is its superclass
+pub superclass_is : (types : List Placed) → IsDistinct is_type types → (t s : Placed) → Contains types s → extends t s ≡ true → superclass types t ≡ Some s
+superclass_is types d t s c h =
+    let i = IsIn-from_Contains types s c in
+    find_only (extends t) types s i h (λ u k e. one_of_name types u s d k i (one_extended t u s e h))
 
+module _ (types : List Placed) (acyclic : IsAcyclic types) (distinct : IsDistinct is_type types) where
   begins : (t : Placed) → Contains types t → IsIn t (chain types t)
   begins t c = subst (IsIn t) (sym (chain_goes_on types acyclic t c)) (inl refl)
 
   follows : (t s : Placed) → Contains types t → Contains types s → extends t s ≡ true → IsIn s (chain types t)
   follows t s c d h =
-      let e : chain types t ≡ t ∷ chain types s = chain_goes_on types acyclic t c ∙ ap (λ o. t ∷ chain_above types t o) (superclass_is t s d h) in
+      let e : chain types t ≡ t ∷ chain types s = chain_goes_on types acyclic t c ∙ ap (λ o. t ∷ chain_above types t o) (superclass_is types distinct t s d h) in
       subst (IsIn s) (sym e) (inr (begins s d))
 
   in_chain : {t u : Placed} → Contains types t → Walk extends types t u → IsIn u (chain types t)

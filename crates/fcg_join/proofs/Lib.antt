@@ -13,3 +13,5 @@ pub mod RowLaws
 pub mod MentionRows
 pub mod BelowLists
 pub mod SuperNumbers
+pub mod LinkRows
+pub mod WinnerPlaces

@@ -1,5 +1,5 @@
 -- What is at or below a name, from rows of mentions.
-use Rattle.std.proofs.Common.{◌≡◌, ℕ, ◌<◌, List, [], ◌∷◌, length, eqb, ltb, refl, sym, ap, subst, ◌∙◌, inl, inr}
+use Rattle.std.proofs.Common.{◌≡◌, ℕ, ◌<◌, List, [], ◌∷◌, length, eqb, ltb, get_or, refl, sym, ap, subst, ◌∙◌, inl, inr}
 use Rattle.std.specs.Prelude.{Bool, true, false, cond, not, ◌&&◌, ◌||◌, ◌↔◌, Option, Some, None, filter, map, Contains, is_none}
 use Rattle.std.specs.List.{list_any, IsDistinct}
 use Rattle.std.specs.Cmp.{both_ways}
@@ -15,6 +15,8 @@ use Rattle.fcg_analysis.specs.Declarations.{Placed, object_name, is_named, is_ty
 use Rattle.fcg_analysis.specs.Types.{links, above, is_above, type_named, is_below}
 use Rattle.fcg_analysis.specs.Laws.Statements.{IsAcyclic}
 use Rattle.fcg_join.specs.Names.{text_at}
+use Rattle.fcg_analysis.specs.Nodes.{Node}
+use Rattle.fcg_join.specs.NodeTables.{HasNodeAt, owners}
 use Rattle.fcg_join.specs.TypeLinks.{HasTypeAt}
 use Rattle.fcg_join.specs.TypeTables.{mentions, mentions_at, is_class_name, own_mentions, HasNames, AreTypeNames, IsUpwardRow, AreUpwardRows}
 use Rattle.fcg_analysis.proofs.General.Members.{IsIn, IsIn-from_Contains, Contains-from_IsIn, and_first, and_second, any_in, in_any, find_none, filter_in, in_filter, map_in, in_map, append_left, append_right, in_append}
@@ -23,6 +25,7 @@ use Rattle.fcg_analysis.proofs.General.Places.{same_at}
 use Rattle.fcg_analysis.proofs.NameLaws.{below_put, find_type, not_circular}
 use Rattle.fcg_analysis.proofs.OverrideLaws.{one_of_name}
 use Rattle.fcg_analysis.proofs.WinnerLaws.{is_type_self, is_type_back}
+use Rattle.fcg_join.proofs.NodeNumbers.{owner_is}
 use Rattle.fcg_join.proofs.Places.{has_in, one_place}
 
 -- ---- a row has a number
@@ -211,3 +214,15 @@ interface_by_numbers names types a d rows name_at up named x y t u h i k =
     let n = named y u i in
     interface_by_row names types a d t u (name_at y) (rows x) (has_in types x t h) (has_in types y u i) k n.0 n.1 (up x t h)
     ∙ ap (λ b. not b && list_any (λ k. eqb k (name_at y)) (rows x)) (is_type_back u t ∙ same_number types d x y t u h i)
+
+-- the owner of a node, which may be an interface above
+pub node_by_numbers : (names : List (List ℕ)) (types : List Placed) → IsAcyclic types → IsDistinct is_type types → (rows : ℕ → List ℕ) (name_at : ℕ → ℕ)
+    → AreUpwardRows types (mentions_at names types) rows → AreTypeNames names types name_at → (x k : ℕ) (t : Placed) (m : Node) → HasTypeAt types x t → HasNodeAt types k m
+    → (is_interface m.owner && is_above types t m.owner)
+    ≡ (is_interface m.owner && (not (eqb x (get_or (owners types) k 0)) && list_any (λ j. eqb j (name_at (get_or (owners types) k 0))) (rows x)))
+node_by_numbers names types a d rows name_at up named x k t m h i = at (is_interface m.owner) refl
+  where
+    at : (b : Bool) → is_interface m.owner ≡ b
+        → (b && is_above types t m.owner) ≡ (b && (not (eqb x (get_or (owners types) k 0)) && list_any (λ j. eqb j (name_at (get_or (owners types) k 0))) (rows x)))
+    at false e = refl
+    at true e = interface_by_numbers names types a d rows name_at up named x (get_or (owners types) k 0) t m.owner h (owner_is types k m i) e

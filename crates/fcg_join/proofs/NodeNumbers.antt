@@ -136,6 +136,16 @@ owner_row types k x m t h i = (
   λ r. in_its_row types k x t i r.0 r.1,
 )
 
+-- a node is its owner's method at the place in the row
+pub owner_method : (types : List Placed) (k first : ℕ) (m : Node) → HasNodeAt types k m → get_or (first_nodes types) (get_or (owners types) k 0) 0 ≡ first
+    → (first ≤ k) × (k < first + length m.owner.view.methods) × (slice_get m.owner.view.methods (k - first) ≡ Some m.method)
+owner_method types k first m h e =
+    let p = of_method_at types k m h in
+    let o : HasTypeAt types (get_or (owners types) k 0) m.owner = owner_is types k m h in
+    let x : get_or (owners types) k 0 ≡ p.place = in_its_row types k p.place m.owner p.owner p.from' p.until in
+    let f : first_node types p.place ≡ first = ap (first_node types) (sym x) ∙ sym (first_nodes_at types (get_or (owners types) k 0) m.owner o) ∙ e in
+    subst (λ n. (n ≤ k) × (k < n + length m.owner.view.methods) × (slice_get m.owner.view.methods (k - n) ≡ Some m.method)) f (p.from', p.until, p.method)
+
 pub owners_within : (types : List Placed) → All (λ x. x < length types) (owners types)
 owners_within types k d l =
     let there = some_at (nodes types) k (subst (λ n. k < n) (owners_long types) l) in

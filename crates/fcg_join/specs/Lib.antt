@@ -3,4 +3,5 @@ pub mod TypeLinks
 pub mod TypeTables
 pub mod Names
 pub mod NodeTables
+pub mod Places
 pub mod Internal

@@ -7,6 +7,7 @@
 mod laws;
 mod names;
 mod node_laws;
+mod place_laws;
 mod table_laws;
 mod winners;
 
@@ -19,6 +20,7 @@ pub use node_laws::{
     declared_by_declarers, declarers_are_nodes, first_nodes_are_sums, found_nodes_have_numbers,
     owners_are_types, super_methods_by_declarers,
 };
+pub use place_laws::{links_by_rows, places_are_marked};
 pub use table_laws::{
     below_by_rows, below_in_order, interfaces_above_by_rows, mentions_are_numbered,
     rows_are_joined_upward,

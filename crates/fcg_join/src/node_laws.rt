@@ -1,6 +1,6 @@
 //! Laws between nodes and tables by their numbers: the first node of each type, the type of each node, the nodes that declare a
 //! signature, and the superinterface methods among these.
-ghost use Rattle.std.specs.Prelude.{◌≡◌, ◌≢◌, ◌↔◌, ◌+◌, ◌<◌, ◌≤◌, ◌==◌, ℕ, true, List, [], ◌∷◌, ◌++◌, Bool, not, ◌&&◌, ◌||◌, Contains, All, Option, Some, None, filter, find, length, option_map, replicate, slice_index_or};
+ghost use Rattle.std.specs.Prelude.{◌≡◌, ◌≢◌, ◌↔◌, ◌+◌, ◌-◌, ◌<◌, ◌≤◌, ◌==◌, ℕ, true, List, [], ◌∷◌, ◌++◌, Bool, not, ◌&&◌, ◌||◌, Contains, All, Option, Some, None, filter, find, length, option_map, replicate, slice_get, slice_index_or};
 ghost use Rattle.std.specs.List.{IsDistinct, list_any, range_with_len};
 ghost use Rattle.std.specs.List.Sorted.{IsStrictlyIncreasing};
 ghost use Rattle.fcg_analysis.specs.NamesAndFlags.{first_of_list, one};
@@ -19,13 +19,16 @@ pub fn first_nodes_are_sums()
     ensures at_place { (types : List Placed) (x : ℕ) (t : Placed) → HasTypeAt types x t → slice_index_or (first_nodes types) x 0 ≡ first_node types x }
 {}
 
-/// The table of owners has of each node the number of its type, and a node is of a type where its number is in the row of that.
+/// The table of owners has of each node the number of its type, and a node is of a type where its number is in the row of
+/// that: it is the type's method at the place in the row.
 pub fn owners_are_types()
     ensures go_on { (types : List Placed) (t : Placed) → owners (types ++ t ∷ []) ≡ owners types ++ replicate (length t.view.methods) (length types) }
     ensures long { (types : List Placed) → length (owners types) ≡ length (nodes types) }
     ensures within { (types : List Placed) → All (λ x. x < length types) (owners types) }
     ensures owner { (types : List Placed) (k : ℕ) (m : Node) → HasNodeAt types k m → HasTypeAt types (slice_index_or (owners types) k 0) m.owner }
     ensures row { (types : List Placed) (k x : ℕ) (m : Node) (t : Placed) → HasNodeAt types k m → HasTypeAt types x t → slice_index_or (owners types) k 0 ≡ x ↔ ((first_node types x ≤ k) × (k < first_node types x + length t.view.methods)) }
+    ensures method { (types : List Placed) (k first : ℕ) (m : Node) → HasNodeAt types k m → slice_index_or (first_nodes types) (slice_index_or (owners types) k 0) 0 ≡ first
+        → (first ≤ k) × (k < first + length m.owner.view.methods) × (slice_get m.owner.view.methods (k - first) ≡ Some m.method) }
 {}
 
 /// The declarers of a signature are the numbers of the nodes that have it, and rise. Where signatures have numbers, these are the

@@ -1,16 +1,18 @@
 //! Laws of rows of numbers that are joined along the links of types, and of what is at or below a name by such rows, by chains
 //! and by subclasses.
-ghost use Rattle.std.specs.Prelude.{◌≡◌, ◌↔◌, ◌<◌, ℕ, true, false, List, [], Bool, not, ◌&&◌, ◌||◌, ◌==◌, Contains, All, Some, filter, map, length, slice_get};
+ghost use Rattle.std.specs.Prelude.{◌≡◌, ◌↔◌, ◌<◌, ℕ, true, false, List, [], Bool, not, ◌&&◌, ◌||◌, ◌==◌, Contains, All, Some, filter, map, length, slice_get, slice_index_or};
 ghost use Rattle.std.specs.List.{IsDistinct, list_any, range_with_len};
 ghost use Rattle.std.specs.List.Sorted.{IsStrictlyIncreasing};
 ghost use Rattle.fcg_grammar.specs.Table.{table};
 ghost use Rattle.fcg_analysis.specs.NamesAndFlags.{same};
 ghost use Rattle.fcg_analysis.specs.Declarations.{Placed, object_name, is_type, is_class, is_interface, names_of};
 ghost use Rattle.fcg_analysis.specs.Types.{is_above, is_below};
+ghost use Rattle.fcg_analysis.specs.Nodes.{Node};
 ghost use Rattle.fcg_analysis.specs.Laws.Statements.{IsAcyclic};
 ghost use Rattle.fcg_order.specs.Links.{HasLink};
 ghost use Rattle.fcg_join.specs.Names.{text_at};
 ghost use Rattle.fcg_join.specs.TypeLinks.{HasTypeAt, HasLinks};
+ghost use Rattle.fcg_join.specs.NodeTables.{HasNodeAt, owners};
 ghost use Rattle.fcg_join.specs.TypeTables.{HasOwnRows, IsUpwardRow, AreUpwardRows, IsJoinedRow, AreJoined, HasNames, AreTypeNames, AreSubclasses, mentions_at, own_mentions, is_class_name};
 
 /// A row that has a type's own numbers and those of the rows to which the type links has the numbers that the type or one above
@@ -37,12 +39,16 @@ pub fn below_by_rows()
     ensures unmentioned { (names : List (List ℕ)) (types : List Placed) → HasNames names types → (n : List ℕ) → (Contains names n → ⊥) → (d : Placed) → Contains types d → is_below types d n ≡ same n object_name }
 {}
 
-/// An interface is above another type where the row of that has the number of its name; and types of one number are one.
+/// An interface is above another type where the row of that has the number of its name, as of the
+/// owner of a node; and types of one number are one.
 pub fn interfaces_above_by_rows()
     ensures of_row { (names : List (List ℕ)) (types : List Placed) → IsAcyclic types → IsDistinct is_type types → (t u : Placed) (n : ℕ) (numbers : List ℕ) → Contains types t → Contains types u → is_interface u ≡ true
         → n < length names → text_at names n ≡ u.view.name → IsUpwardRow types (mentions_at names types) t numbers → is_above types t u ≡ (not (is_type u t) && list_any (λ k. k == n) numbers) }
     ensures by_numbers { (names : List (List ℕ)) (types : List Placed) → IsAcyclic types → IsDistinct is_type types → (rows : ℕ → List ℕ) (name_at : ℕ → ℕ) → AreUpwardRows types (mentions_at names types) rows → AreTypeNames names types name_at
         → (x y : ℕ) (t u : Placed) → HasTypeAt types x t → HasTypeAt types y u → is_interface u ≡ true → is_above types t u ≡ (not (x == y) && list_any (λ k. k == name_at y) (rows x)) }
+    ensures of_node { (names : List (List ℕ)) (types : List Placed) → IsAcyclic types → IsDistinct is_type types → (rows : ℕ → List ℕ) (name_at : ℕ → ℕ) → AreUpwardRows types (mentions_at names types) rows → AreTypeNames names types name_at
+        → (x k : ℕ) (t : Placed) (m : Node) → HasTypeAt types x t → HasNodeAt types k m
+        → (is_interface m.owner && is_above types t m.owner) ≡ (is_interface m.owner && (not (x == slice_index_or (owners types) k 0) && list_any (λ j. j == name_at (slice_index_or (owners types) k 0)) (rows x))) }
     ensures same { (types : List Placed) → IsDistinct is_type types → (x y : ℕ) (t u : Placed) → HasTypeAt types x t → HasTypeAt types y u → is_type t u ≡ (x == y) }
 {}
 

@@ -1,7 +1,7 @@
 -- Rows of links, by the names that types use.
 use Rattle.std.proofs.Common.{◌≡◌, ℕ, zero, suc, ◌<◌, List, [], ◌∷◌, length, get_or, refl, sym, ap, subst, ◌∙◌, inl, inr, arith}
-use Rattle.std.specs.Prelude.{Bool, true, false, cond, ◌↔◌, Option, Some, None, filter_map, map, option_and_then, option_to_list, slice_get, Contains}
-use Rattle.std.specs.List.{cons_option, IsDistinct}
+use Rattle.std.specs.Prelude.{Bool, true, false, cond, ◌↔◌, Option, Some, None, flat_map, map, option_and_then, option_to_list, slice_get, Contains}
+use Rattle.std.specs.List.{IsDistinct}
 use Rattle.std.specs.Cmp.Lexicographic.{bytes_decides}
 use Rattle.std.proofs.lemmas.Bool.{or_cases, or_left, or_right, and_from}
 use Rattle.std.proofs.lemmas.Option.{slice_get_within}
@@ -11,7 +11,7 @@ use Rattle.fcg_analysis.specs.Types.{type_named, links, extends, implements}
 use Rattle.fcg_analysis.specs.Laws.ByName.{class_named}
 use Rattle.fcg_order.specs.Links.{row, HasLink}
 use Rattle.fcg_join.specs.TypeLinks.{HasTypeAt, HasLinks, interface_named, linked_types}
-use Rattle.fcg_analysis.proofs.General.Members.{IsIn, IsIn-from_Contains, Contains-from_IsIn, and_first, and_second, any_in, in_any, find_in, map_in, in_map, append_left, append_right, in_append}
+use Rattle.fcg_analysis.proofs.General.Members.{IsIn, IsIn-from_Contains, Contains-from_IsIn, and_first, and_second, any_in, in_any, find_in, map_in, in_map, append_left, append_right, in_append, in_flat_map, flat_map_in}
 use Rattle.fcg_analysis.proofs.General.Places.{some_at}
 use Rattle.fcg_analysis.proofs.BelowChains.{superclass_is}
 use Rattle.fcg_analysis.proofs.NameLaws.{superclass_by_name, find_type}
@@ -26,24 +26,6 @@ in_option (Some y) x (inr h) = absurd h
 
 option_in : {X : Type 0} (o : Option X) (x : X) → o ≡ Some x → IsIn x (option_to_list o)
 option_in o x e = subst (λ v. IsIn x (option_to_list v)) (sym e) (inl refl)
-
-in_filter_map : {X Y : Type 0} (f : X → Option Y) (xs : List X) (y : Y) → IsIn y (filter_map f xs) → (x : X) × IsIn x xs × (f x ≡ Some y)
-in_filter_map f [] y h = absurd h
-in_filter_map {X} {Y} f (x ∷ xs) y h = at (in_filter_map f xs y) (f x) refl h
-  where
-    at : (IsIn y (filter_map f xs) → (z : X) × IsIn z xs × (f z ≡ Some y)) → (o : Option Y) → f x ≡ o → IsIn y (cons_option o (filter_map f xs)) → (z : X) × IsIn z (x ∷ xs) × (f z ≡ Some y)
-    at next None e i = let r = next i in (r.0, inr r.1, r.2)
-    at next (Some v) e (inl i) = (x, inl refl, e ∙ ap Some i)
-    at next (Some v) e (inr i) = let r = next i in (r.0, inr r.1, r.2)
-
-filter_map_in : {X Y : Type 0} (f : X → Option Y) (xs : List X) (x : X) (y : Y) → IsIn x xs → f x ≡ Some y → IsIn y (filter_map f xs)
-filter_map_in f [] x y h e = absurd h
-filter_map_in f (z ∷ zs) x y (inl i) e = subst (λ o. IsIn y (cons_option o (filter_map f zs))) (sym (ap f i ∙ e)) (inl refl)
-filter_map_in {X} {Y} f (z ∷ zs) x y (inr h) e = at (f z) (filter_map_in f zs x y h e)
-  where
-    at : (o : Option Y) → IsIn y (filter_map f zs) → IsIn y (cons_option o (filter_map f zs))
-    at None i = i
-    at (Some v) i = inr i
 
 -- ---- the types to which a type links
 
@@ -66,6 +48,9 @@ module _ (types : List Placed) (distinct : IsDistinct is_type types) where
   is_named_interface n u i k e =
       ap (option_and_then (λ v. cond (is_interface v) (Some v) None)) (find_type types distinct n u i k) ∙ ap (λ b. cond b (Some u) None) e
 
+  abbrev named_interfaces : Placed → List Placed
+  named_interfaces t = flat_map (λ n. option_to_list (interface_named types n)) (interface_names t)
+
   pub linked_is : (t u : Placed) → Contains (linked_types types t) u ↔ (Contains types u × (links t u ≡ true))
   linked_is t u = (forth, back)
     where
@@ -84,21 +69,22 @@ module _ (types : List Placed) (distinct : IsDistinct is_type types) where
 
       forth : Contains (linked_types types t) u → Contains types u × (links t u ≡ true)
       forth c =
-          elim (in_append (option_to_list (class_named types (superclass_names t))) (filter_map (interface_named types) (interface_names t)) u (IsIn-from_Contains _ u c)) [
-            | inl i ↦ by_class (in_option (class_named types (superclass_names t)) u i)
-            | inr i ↦ (let n = in_filter_map (interface_named types) (interface_names t) u i in by_interface n.0 n.1 n.2)
+          elim (in_append (named_interfaces t) (option_to_list (class_named types (superclass_names t))) u (IsIn-from_Contains _ u c)) [
+            | inl i ↦ (let n = in_flat_map (λ n. option_to_list (interface_named types n)) (interface_names t) u i in by_interface n.0 n.1 (in_option (interface_named types n.0) u n.2))
+            | inr i ↦ by_class (in_option (class_named types (superclass_names t)) u i)
           ]
 
       back : Contains types u × (links t u ≡ true) → Contains (linked_types types t) u
       back h =
           let i = IsIn-from_Contains types u h.0 in
           elim (or_cases (extends t u) (implements t u) h.1) [
-            | inl e ↦ Contains-from_IsIn _ u (append_left (option_to_list (class_named types (superclass_names t))) (filter_map (interface_named types) (interface_names t)) u
+            | inl e ↦ Contains-from_IsIn _ u (append_right (named_interfaces t) (option_to_list (class_named types (superclass_names t))) u
                 (option_in (class_named types (superclass_names t)) u (sym (superclass_by_name types distinct t) ∙ superclass_is types distinct t u h.0 e)))
             | inr e ↦ (let n = in_any (same u.view.name) (interface_names t) (and_second (is_interface u) (contains u.view.name (interface_names t)) e) in
                 let name : is_named n.0 u ≡ true = (bytes_decides n.0 u.view.name).1 (sym ((bytes_decides u.view.name n.0).0 n.2)) in
-                Contains-from_IsIn _ u (append_right (option_to_list (class_named types (superclass_names t))) (filter_map (interface_named types) (interface_names t)) u
-                (filter_map_in (interface_named types) (interface_names t) n.0 u n.1 (is_named_interface n.0 u i name (and_first (is_interface u) (contains u.view.name (interface_names t)) e)))))
+                Contains-from_IsIn _ u (append_left (named_interfaces t) (option_to_list (class_named types (superclass_names t))) u
+                (flat_map_in (λ n. option_to_list (interface_named types n)) (interface_names t) n.0 u n.1
+                (option_in (interface_named types n.0) u (is_named_interface n.0 u i name (and_first (is_interface u) (contains u.view.name (interface_names t)) e))))))
           ]
 
   -- ---- their numbers

@@ -1,5 +1,5 @@
 -- The links of types, by the types' numbers.
-use Rattle.std.specs.Prelude.{◌≡◌, ◌↔◌, ℕ, ◌++◌, true, List, Option, Some, None, filter_map, length, option_and_then, option_to_list, slice_get, if◌then◌else◌}
+use Rattle.std.specs.Prelude.{◌≡◌, ◌↔◌, ℕ, ◌++◌, true, List, Option, Some, None, flat_map, length, option_and_then, option_to_list, slice_get, if◌then◌else◌}
 use Rattle.fcg_analysis.specs.Declarations.{Placed, is_interface, superclass_names, interface_names}
 use Rattle.fcg_analysis.specs.Types.{type_named, links}
 use Rattle.fcg_analysis.specs.Laws.ByName.{class_named}
@@ -19,7 +19,7 @@ pub record HasLinks (types : List Placed) (rows : List (List ℕ)) : Type 0 wher
 abbrev pub interface_named : List Placed → List ℕ → Option Placed
 interface_named types n = option_and_then (λ u. if is_interface u then Some u else None) (type_named types n)
 
--- the types to which t links, by the names that it uses: the class of its superclass's name, and the interfaces of its
--- interfaces' names
+-- the types to which t links, by the names that it uses: the interfaces of its interfaces' names, and the class of its
+-- superclass's name
 abbrev pub linked_types : List Placed → Placed → List Placed
-linked_types types t = option_to_list (class_named types (superclass_names t)) ++ filter_map (interface_named types) (interface_names t)
+linked_types types t = flat_map (λ n. option_to_list (interface_named types n)) (interface_names t) ++ option_to_list (class_named types (superclass_names t))

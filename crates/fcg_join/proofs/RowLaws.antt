@@ -1,14 +1,15 @@
 -- Rows of numbers that are joined along the links.
-use Rattle.std.proofs.Common.{◌≡◌, ℕ, zero, suc, ◌<◌, List, length, sym, subst, ◌∙◌, inl, inr, arith}
+use Rattle.std.proofs.Common.{◌≡◌, ◌∷◌, ◌++◌, ℕ, zero, suc, ◌<◌, List, length, sym, subst, ◌∙◌, inl, inr, arith}
 use Rattle.std.specs.Prelude.{Bool, true, ◌&&◌, ◌||◌, Contains}
-use Rattle.std.specs.List.{list_any}
+use Rattle.std.specs.List.{list_any, IsDistinct}
 use Rattle.std.proofs.lemmas.Bool.{or_cases, or_left, or_right, and_from}
 use Rattle.std.proofs.lemmas.Option.{slice_get_within}
 use Rattle.fcg_analysis.specs.Walks.{step}
-use Rattle.fcg_analysis.specs.Declarations.{Placed}
+use Rattle.fcg_analysis.specs.Declarations.{Placed, is_type}
 use Rattle.fcg_analysis.specs.Types.{links, above}
 use Rattle.fcg_analysis.specs.Laws.Statements.{IsAcyclic}
 use Rattle.fcg_order.specs.Links.{HasLink}
+use Rattle.fcg_order.specs.Order.{IsOrder}
 use Rattle.fcg_join.specs.TypeLinks.{HasTypeAt, HasLinks}
 use Rattle.fcg_join.specs.TypeTables.{HasOwnRows, IsUpwardRow, IsJoinedRow, AreJoined}
 use Rattle.fcg_analysis.proofs.General.Members.{Contains-from_IsIn, IsIn-from_Contains, any_in, in_any, and_first, and_second}
@@ -16,6 +17,7 @@ use Rattle.fcg_analysis.proofs.General.Walking.{any_led_goes_on}
 use Rattle.fcg_analysis.proofs.LineLaws.{height, height_less, height_small}
 use Rattle.fcg_join.proofs.Places.{place_of, has_in}
 use Rattle.fcg_join.proofs.Circles.{some_type}
+use Rattle.fcg_join.proofs.MarkLaws.{no_circle}
 
 module _ (types : List Placed) (rows : List (List ℕ)) (h : HasLinks types rows) (says : ℕ → Placed → Bool) (own : ℕ → List ℕ) (starts : HasOwnRows types says own) where
   -- t has a number, or a type above it, or one to which t links has it or has a type above it that does
@@ -51,6 +53,12 @@ module _ (types : List Placed) (rows : List (List ℕ)) (h : HasLinks types rows
                 let l : HasLink rows x p.0 = (h.each x p.0 t u.0 a p.1).1 (and_first (links t u.0) (says_at n u.0) u.2) in
                 (j n).1 (inr (p.0, l, (before p.0 u.0 l p.1 n).1 (and_second (links t u.0) (says_at n u.0) u.2))))
           ]
+
+  -- along the order, the rows to which x links are there before
+  pub joined_in_order : IsAcyclic types → IsDistinct is_type types → (order before later : List ℕ) → IsOrder rows order → (joined : ℕ → List ℕ) (x : ℕ) (t : Placed) (numbers : List ℕ) → order ≡ before ++ x ∷ later → HasTypeAt types x t
+      → ((y : ℕ) (u : Placed) → Contains before y → HasTypeAt types y u → IsUpwardRow types says u (joined y)) → IsJoinedRow rows own joined x numbers → IsUpwardRow types says t numbers
+  joined_in_order acyclic d order before later o joined x t numbers e a b j =
+      joined_row joined x t numbers a (λ y u l i. b y u (o.after before later x y e (no_circle types rows h d acyclic x t a) l) i) j
 
   module _ (acyclic : IsAcyclic types) (joined : ℕ → List ℕ) (each : AreJoined rows own joined) where
     joined_below : (k x : ℕ) (t : Placed) → HasTypeAt types x t → height types acyclic t < k → IsUpwardRow types says t (joined x)

@@ -1,6 +1,6 @@
 //! Laws of rows of numbers that are joined along the links of types, and of what is at or below a name by such rows, by chains
 //! and by subclasses.
-ghost use Rattle.std.specs.Prelude.{◌≡◌, ◌↔◌, ◌<◌, ℕ, true, false, List, [], Bool, not, ◌&&◌, ◌||◌, ◌==◌, Contains, All, Some, filter, map, length, slice_get, slice_index_or};
+ghost use Rattle.std.specs.Prelude.{◌≡◌, ◌↔◌, ◌<◌, ℕ, true, false, List, [], ◌∷◌, ◌++◌, Bool, not, ◌&&◌, ◌||◌, ◌==◌, Contains, All, Some, filter, map, length, slice_get, slice_index_or};
 ghost use Rattle.std.specs.List.{IsDistinct, list_any, range_with_len};
 ghost use Rattle.std.specs.List.Sorted.{IsStrictlyIncreasing};
 ghost use Rattle.fcg_grammar.specs.Table.{table};
@@ -10,16 +10,21 @@ ghost use Rattle.fcg_analysis.specs.Types.{is_above, is_below};
 ghost use Rattle.fcg_analysis.specs.Nodes.{Node};
 ghost use Rattle.fcg_analysis.specs.Laws.Statements.{IsAcyclic};
 ghost use Rattle.fcg_order.specs.Links.{HasLink};
+ghost use Rattle.fcg_order.specs.Order.{IsOrder};
 ghost use Rattle.fcg_join.specs.Names.{text_at};
 ghost use Rattle.fcg_join.specs.TypeLinks.{HasTypeAt, HasLinks};
 ghost use Rattle.fcg_join.specs.NodeTables.{HasNodeAt, owners};
 ghost use Rattle.fcg_join.specs.TypeTables.{HasOwnRows, IsUpwardRow, AreUpwardRows, IsJoinedRow, AreJoined, HasNames, AreTypeNames, AreSubclasses, mentions_at, own_mentions, is_class_name};
 
 /// A row that has a type's own numbers and those of the rows to which the type links has the numbers that the type or one above
-/// it has of its own, where those rows do. So all rows do, where each is so joined.
+/// it has of its own, where those rows do. Along the order against the links those rows are there before; and all rows do, where
+/// each is so joined.
 pub fn rows_are_joined_upward()
     ensures step { (types : List Placed) (links : List (List ℕ)) (own rows : ℕ → List ℕ) (says : ℕ → Placed → Bool) → HasLinks types links → HasOwnRows types says own → (x : ℕ) (t : Placed) (numbers : List ℕ) → HasTypeAt types x t
         → ((y : ℕ) (u : Placed) → HasLink links x y → HasTypeAt types y u → IsUpwardRow types says u (rows y)) → IsJoinedRow links own rows x numbers → IsUpwardRow types says t numbers }
+    ensures in_order { (types : List Placed) (links : List (List ℕ)) (own rows : ℕ → List ℕ) (says : ℕ → Placed → Bool) → IsAcyclic types → IsDistinct is_type types → HasLinks types links → HasOwnRows types says own
+        → (order before later : List ℕ) → IsOrder links order → (x : ℕ) (t : Placed) (numbers : List ℕ) → order ≡ before ++ x ∷ later → HasTypeAt types x t
+        → ((y : ℕ) (u : Placed) → Contains before y → HasTypeAt types y u → IsUpwardRow types says u (rows y)) → IsJoinedRow links own rows x numbers → IsUpwardRow types says t numbers }
     ensures each { (types : List Placed) (links : List (List ℕ)) (own rows : ℕ → List ℕ) (says : ℕ → Placed → Bool) → IsAcyclic types → HasLinks types links → HasOwnRows types says own → AreJoined links own rows → AreUpwardRows types says rows }
 {}
 

@@ -15,3 +15,4 @@ pub mod BelowLists
 pub mod SuperNumbers
 pub mod LinkRows
 pub mod WinnerPlaces
+pub mod SuperRows

@@ -1,5 +1,6 @@
 -- Nodes by their numbers: the first of each type, the type of each, and those that declare a signature.
-use Rattle.std.specs.Prelude.{◌≡◌, ℕ, ◌+◌, List, [], ◌∷◌, ◌++◌, Option, Some, None, filter, length, map, replicate, slice_get, true}
+use Rattle.std.specs.Prelude.{◌≡◌, ℕ, ◌+◌, ◌==◌, ◌&&◌, Bool, not, List, [], ◌∷◌, ◌++◌, Option, Some, None, filter, length, map, replicate, slice_get, slice_index_or, true}
+use Rattle.std.specs.List.{list_any}
 use Rattle.fcg_analysis.specs.Declarations.{Placed, Signature, has_signature}
 use Rattle.fcg_analysis.specs.Nodes.{Node, nodes}
 
@@ -42,3 +43,8 @@ pub record IsDeclarer (types : List Placed) (s : Signature) (k : ℕ) : Type 0 w
   pub node : Node
   pub there : HasNodeAt types k node
   pub signature : has_signature s node.method ≡ true
+
+-- the owner of the node k is another type than x, and the row of x has the number of its name
+abbrev pub owner_in_row : (ℕ → List ℕ) → (ℕ → ℕ) → List ℕ → ℕ → ℕ → Bool
+owner_in_row rows name_at owner_numbers x k =
+    let owner = slice_index_or owner_numbers k 0 in not (x == owner) && list_any (λ n. n == name_at owner) (rows x)

@@ -18,7 +18,7 @@ pub use laws::{
 pub use names::{NameNumbers, number_names};
 pub use node_laws::{
     declared_by_declarers, declarers_are_nodes, first_nodes_are_sums, found_nodes_have_numbers,
-    owners_are_types, super_methods_by_declarers,
+    owners_are_types, super_methods_by_declarers, super_methods_by_rows,
 };
 pub use place_laws::{links_by_rows, places_are_marked};
 pub use table_laws::{

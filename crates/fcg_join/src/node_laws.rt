@@ -7,9 +7,11 @@ ghost use Rattle.fcg_analysis.specs.NamesAndFlags.{first_of_list, one};
 ghost use Rattle.fcg_analysis.specs.Declarations.{Placed, Signature, is_type, is_interface, is_private, is_static, is_abstract, has_signature};
 ghost use Rattle.fcg_analysis.specs.Types.{is_above};
 ghost use Rattle.fcg_analysis.specs.Nodes.{Node, nodes, declared, super_methods, specific, one_default, first_super_method};
+ghost use Rattle.fcg_analysis.specs.Laws.Statements.{IsAcyclic};
 ghost use Rattle.fcg_analysis.specs.Laws.Methods.{method_total, first_node, AreApart};
 ghost use Rattle.fcg_join.specs.TypeLinks.{HasTypeAt};
-ghost use Rattle.fcg_join.specs.NodeTables.{HasNodeAt, IsNumberOf, first_nodes, owners, numbers_of, declarers, IsDeclarer};
+ghost use Rattle.fcg_join.specs.NodeTables.{HasNodeAt, IsNumberOf, first_nodes, owners, numbers_of, declarers, IsDeclarer, owner_in_row};
+ghost use Rattle.fcg_join.specs.TypeTables.{AreUpwardRows, AreTypeNames, mentions_at};
 
 /// The first nodes of the types are the sums of the methods before.
 pub fn first_nodes_are_sums()
@@ -70,6 +72,21 @@ pub fn super_methods_by_declarers()
         → ((k : ℕ) (m : Node) → HasNodeAt types k m → abstract_at k ≡ is_abstract m.method)
         → option_map (λ m. m.number) (one_default types t s)
         ≡ one (filter (λ k. not (abstract_at k)) (filter (λ k. not (list_any (λ j. below j k) (numbers_of (super_methods types t s)))) (numbers_of (super_methods types t s)))) }
+{}
+
+/// With rows of mentions, they are the declarers that are open, of an interface other than the type, the number of whose name is in
+/// the row of the type; and one of them is maximally-specific where it isn't so for the owner of another.
+pub fn super_methods_by_rows()
+    ensures members { (names : List (List ℕ)) (types : List Placed) → IsAcyclic types → IsDistinct is_type types → (rows : ℕ → List ℕ) (name_at : ℕ → ℕ) → AreUpwardRows types (mentions_at names types) rows → AreTypeNames names types name_at
+        → (open_at : ℕ → Bool) → ((k : ℕ) (m : Node) → HasNodeAt types k m → open_at k ≡ (not (is_private m.method || is_static m.method) && is_interface m.owner)) → (x : ℕ) (t : Placed) (s : Signature) → HasTypeAt types x t
+        → numbers_of (super_methods types t s) ≡ filter (λ k. open_at k && owner_in_row rows name_at (owners types) x k) (declarers types s) }
+    ensures first { (names : List (List ℕ)) (types : List Placed) → IsAcyclic types → IsDistinct is_type types → (rows : ℕ → List ℕ) (name_at : ℕ → ℕ) → AreUpwardRows types (mentions_at names types) rows → AreTypeNames names types name_at
+        → (open_at : ℕ → Bool) → ((k : ℕ) (m : Node) → HasNodeAt types k m → open_at k ≡ (not (is_private m.method || is_static m.method) && is_interface m.owner)) → (x : ℕ) (t : Placed) (s : Signature) → HasTypeAt types x t
+        → option_map (λ m. m.number) (first_super_method types t s) ≡ find (λ k. open_at k && owner_in_row rows name_at (owners types) x k) (declarers types s) }
+    ensures default { (names : List (List ℕ)) (types : List Placed) → IsAcyclic types → IsDistinct is_type types → (rows : ℕ → List ℕ) (name_at : ℕ → ℕ) → AreUpwardRows types (mentions_at names types) rows → AreTypeNames names types name_at
+        → (abstract_at : ℕ → Bool) → ((k : ℕ) (m : Node) → HasNodeAt types k m → abstract_at k ≡ is_abstract m.method) → (t : Placed) (s : Signature) (ks : List ℕ) → ks ≡ numbers_of (super_methods types t s)
+        → option_map (λ m. m.number) (one_default types t s)
+        ≡ one (filter (λ k. not (abstract_at k)) (filter (λ k. not (list_any (λ j. owner_in_row rows name_at (owners types) (slice_index_or (owners types) j 0) k) ks)) ks)) }
 {}
 
 /// What is found by its number stands there among the nodes.

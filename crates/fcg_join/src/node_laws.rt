@@ -74,8 +74,9 @@ pub fn super_methods_by_declarers()
         ≡ one (filter (λ k. not (abstract_at k)) (filter (λ k. not (list_any (λ j. below j k) (numbers_of (super_methods types t s)))) (numbers_of (super_methods types t s)))) }
 {}
 
-/// With rows of mentions, they are the declarers that are open, of an interface other than the type, the number of whose name is in
-/// the row of the type; and one of them is maximally-specific where it isn't so for the owner of another.
+/// By rows of mentions: a declarer of an interface, neither private nor static, is a superinterface method of a type where its owner
+/// is another type and the type's row has the number of the owner's name. One of these is maximally-specific where this isn't so
+/// of its owner and the owner of any other.
 pub fn super_methods_by_rows()
     ensures members { (names : List (List ℕ)) (types : List Placed) → IsAcyclic types → IsDistinct is_type types → (rows : ℕ → List ℕ) (name_at : ℕ → ℕ) → AreUpwardRows types (mentions_at names types) rows → AreTypeNames names types name_at
         → (open_at : ℕ → Bool) → ((k : ℕ) (m : Node) → HasNodeAt types k m → open_at k ≡ (not (is_private m.method || is_static m.method) && is_interface m.owner)) → (x : ℕ) (t : Placed) (s : Signature) → HasTypeAt types x t

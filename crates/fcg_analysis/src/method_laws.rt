@@ -17,8 +17,8 @@ pub fn nodes_are_methods()
     ensures go_on { (ts us : List Placed) → nodes (ts ++ us) ≡ nodes ts ++ nodes_from (length (nodes ts)) (methods_of us) }
 {}
 
-/// The nodes of a type stand in a row, in the order of its methods, after the nodes of the types before it; and each node stands
-/// at the place of its number.
+/// The nodes of a type stand in a row, in the order of its methods, after the nodes of the types before it; and each
+/// node stands at the place of its number.
 pub fn nodes_are_in_rows()
     ensures count { (types : List Placed) → length (nodes types) ≡ method_total types }
     ensures there { (types : List Placed) (x k : ℕ) (t : Placed) (m : Method) → slice_get types x ≡ Some t → slice_get t.view.methods k ≡ Some m
@@ -52,8 +52,8 @@ pub fn declared_methods_are_own()
     ensures only { (types : List Placed) → IsDistinct is_type types → IsSingle types → (m : Node) → Contains (nodes types) m → declared types (signature_of m.method) m.owner ≡ Some m }
 {}
 
-/// Where a type's methods are apart, the declared method of a signature is the one at the place of that method among the type's
-/// own, and the one among the nodes of the signature; and there is none where there is none of these.
+/// Where a type's methods are apart, the declared method of a signature is the one at the place of that method among
+/// the type's own, and the one among the nodes of the signature; and there is none where there is none of these.
 pub fn declared_methods_are_found()
     ensures at_place { (types : List Placed) → IsDistinct is_type types → AreApart types → (x k : ℕ) (t : Placed) (m : Method) (s : Signature) → slice_get types x ≡ Some t → slice_get t.view.methods k ≡ Some m
         → has_signature s m ≡ true → declared types s t ≡ Some (node_at (first_node types x + k) t m) }

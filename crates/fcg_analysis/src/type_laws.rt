@@ -84,8 +84,8 @@ pub fn object_is_named()
     ensures { (types : List Placed) → IsDistinct is_type types → object types ≡ class_named types (object_name ∷ []) }
 {}
 
-/// At or below the name of a known class, but Object's, are the types that have the class in their chains, so that a walk of a
-/// chain finds it. At or below Object's name are all types.
+/// At or below the name of a known class, but Object's, are the types that have the class in their chains, so that a
+/// walk of a chain finds it. At or below Object's name are all types.
 pub fn classes_stand_in_chains()
     ensures in_chain { (types : List Placed) → IsAcyclic types → IsDistinct is_type types → (d u : Placed) → Contains types d → Contains types u → is_class u ≡ true → same u.view.name object_name ≡ false
         → is_below types d u.view.name ≡ list_any (is_type u) (chain types d) }

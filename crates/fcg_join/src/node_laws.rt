@@ -1,5 +1,5 @@
-//! Laws between nodes and tables by their numbers: the first node of each type, the type of each node, the nodes that declare a
-//! signature, and the superinterface methods among these.
+//! Laws between nodes and tables by their numbers: the first node of each type, the type of each node, the nodes that
+//! declare a signature, and the superinterface methods among these.
 ghost use Rattle.std.specs.Prelude.{◌≡◌, ◌≢◌, ◌↔◌, ◌+◌, ◌-◌, ◌<◌, ◌≤◌, ◌==◌, ℕ, true, List, [], ◌∷◌, ◌++◌, Bool, not, ◌&&◌, ◌||◌, Contains, All, Option, Some, None, filter, find, length, option_map, replicate, slice_get, slice_index_or};
 ghost use Rattle.std.specs.List.{IsDistinct, list_any, range_with_len};
 ghost use Rattle.std.specs.List.Sorted.{IsStrictlyIncreasing};
@@ -21,8 +21,8 @@ pub fn first_nodes_are_sums()
     ensures at_place { (types : List Placed) (x : ℕ) (t : Placed) → HasTypeAt types x t → slice_index_or (first_nodes types) x 0 ≡ first_node types x }
 {}
 
-/// The table of owners has of each node the number of its type, and a node is of a type where its number is in the row of
-/// that: it is the type's method at the place in the row.
+/// The table of owners has of each node the number of its type, and a node is of a type where its number is in the row
+/// of that: it is the type's method at the place in the row.
 pub fn owners_are_types()
     ensures go_on { (types : List Placed) (t : Placed) → owners (types ++ t ∷ []) ≡ owners types ++ replicate (length t.view.methods) (length types) }
     ensures long { (types : List Placed) → length (owners types) ≡ length (nodes types) }
@@ -33,8 +33,8 @@ pub fn owners_are_types()
         → (first ≤ k) × (k < first + length m.owner.view.methods) × (slice_get m.owner.view.methods (k - first) ≡ Some m.method) }
 {}
 
-/// The declarers of a signature are the numbers of the nodes that have it, and rise. Where signatures have numbers, these are the
-/// nodes with the number of the signature.
+/// The declarers of a signature are the numbers of the nodes that have it, and rise. Where signatures have numbers,
+/// these are the nodes with the number of the signature.
 pub fn declarers_are_nodes()
     ensures members { (types : List Placed) (s : Signature) (k : ℕ) → Contains (declarers types s) k ↔ IsDeclarer types s k }
     ensures rise { (types : List Placed) (s : Signature) → IsStrictlyIncreasing (declarers types s) }
@@ -53,9 +53,9 @@ pub fn declared_by_declarers()
     ensures number { (types : List Placed) → IsDistinct is_type types → (s : Signature) (k : ℕ) (t : Placed) (m : Node) → Contains types t → declared types s t ≡ Some m → m.number ≡ k → HasNodeAt types k m × Contains (declarers types s) k }
 {}
 
-/// The superinterface methods of a type and a signature are the declarers that are neither private nor static and whose owners are
-/// interfaces above the type, in their order; the maximally-specific ones are those below whose owner is no owner of these; the
-/// one default is the only one of them that isn't abstract; and the first is the first that passes.
+/// The superinterface methods of a type and a signature are the declarers that are neither private nor static and whose
+/// owners are interfaces above the type, in their order; the maximally-specific ones are those below whose owner is no
+/// owner of these; the one default is the only one of them that isn't abstract; and the first is the first that passes.
 pub fn super_methods_by_declarers()
     ensures members { (types : List Placed) (t : Placed) (s : Signature) (passes : ℕ → Bool)
         → ((k : ℕ) (m : Node) → HasNodeAt types k m → has_signature s m.method ≡ true → passes k ≡ (not (is_private m.method || is_static m.method) && (is_interface m.owner && is_above types t m.owner)))
@@ -74,9 +74,9 @@ pub fn super_methods_by_declarers()
         ≡ one (filter (λ k. not (abstract_at k)) (filter (λ k. not (list_any (λ j. below j k) (numbers_of (super_methods types t s)))) (numbers_of (super_methods types t s)))) }
 {}
 
-/// By rows of mentions: a declarer of an interface, neither private nor static, is a superinterface method of a type where its owner
-/// is another type and the type's row has the number of the owner's name. One of these is maximally-specific where this isn't so
-/// of its owner and the owner of any other.
+/// By rows of mentions: a declarer of an interface, neither private nor static, is a superinterface method of a type
+/// where its owner is another type and the type's row has the number of the owner's name. One of these is
+/// maximally-specific where this isn't so of its owner and the owner of any other.
 pub fn super_methods_by_rows()
     ensures members { (names : List (List ℕ)) (types : List Placed) → IsAcyclic types → IsDistinct is_type types → (rows : ℕ → List ℕ) (name_at : ℕ → ℕ) → AreUpwardRows types (mentions_at names types) rows → AreTypeNames names types name_at
         → (open_at : ℕ → Bool) → ((k : ℕ) (m : Node) → HasNodeAt types k m → open_at k ≡ (not (is_private m.method || is_static m.method) && is_interface m.owner)) → (x : ℕ) (t : Placed) (s : Signature) → HasTypeAt types x t

@@ -8,14 +8,15 @@ ghost use Rattle.fcg_join.specs.Winners.{name_number, first_marks, marked};
 ghost use Rattle.fcg_join.specs.Places.{ArePlaces};
 ghost use Rattle.fcg_join.specs.TypeLinks.{HasTypeAt, HasLinks, linked_types};
 
-/// The types to which a type links are the known class of its superclass's name and the known interfaces of its interfaces'
-/// names. So rows of the numbers of these have the links.
+/// The types to which a type links are the known class of its superclass's name and the known interfaces of its
+/// interfaces' names. So rows of the numbers of these have the links.
 pub fn links_by_rows()
     ensures linked { (types : List Placed) → IsDistinct is_type types → (t u : Placed) → Contains (linked_types types t) u ↔ (Contains types u × (links t u ≡ true)) }
     ensures rows { (types : List Placed) → IsDistinct is_type types → (rows : List (List ℕ)) → length rows ≡ length types → ((x : ℕ) (t : Placed) → HasTypeAt types x t → map (slice_get types) (row rows x) ≡ map Some (linked_types types t)) → HasLinks types rows }
 {}
 
-/// What is marked among types is marked among their places; and the place of a winner is that of the first view of its name.
+/// What is marked among types is marked among their places; and the place of a winner is that of the first view of its
+/// name.
 pub fn places_are_marked()
     ensures all { (views : List Placed) → ArePlaces views (range_with_len 0 (length views)) views }
     ensures marked { (views types : List Placed) (places : List ℕ) (marks : List Bool) → ArePlaces views places types → ArePlaces views (marked marks places) (marked marks types) }

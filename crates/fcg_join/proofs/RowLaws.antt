@@ -1,6 +1,6 @@
 -- Rows of numbers that are joined along the links.
 use Rattle.std.proofs.Common.{◌≡◌, ◌∷◌, ◌++◌, ℕ, zero, suc, ◌<◌, List, length, sym, subst, ◌∙◌, inl, inr, arith}
-use Rattle.std.specs.Prelude.{Bool, true, ◌&&◌, ◌||◌, Contains}
+use Rattle.std.specs.Prelude.{Bool, true, ◌&&◌, ◌||◌, Contains, flat_map}
 use Rattle.std.specs.List.{list_any, IsDistinct}
 use Rattle.std.proofs.lemmas.Bool.{or_cases, or_left, or_right, and_from}
 use Rattle.std.proofs.lemmas.Option.{slice_get_within}
@@ -8,16 +8,29 @@ use Rattle.fcg_analysis.specs.Walks.{step}
 use Rattle.fcg_analysis.specs.Declarations.{Placed, is_type}
 use Rattle.fcg_analysis.specs.Types.{links, above}
 use Rattle.fcg_analysis.specs.Laws.Statements.{IsAcyclic}
-use Rattle.fcg_order.specs.Links.{HasLink}
+use Rattle.fcg_order.specs.Links.{row, HasLink}
 use Rattle.fcg_order.specs.Order.{IsOrder}
 use Rattle.fcg_join.specs.TypeLinks.{HasTypeAt, HasLinks}
 use Rattle.fcg_join.specs.TypeTables.{HasOwnRows, IsUpwardRow, IsJoinedRow, AreJoined}
-use Rattle.fcg_analysis.proofs.General.Members.{Contains-from_IsIn, IsIn-from_Contains, any_in, in_any, and_first, and_second}
+use Rattle.fcg_analysis.proofs.General.Members.{Contains-from_IsIn, IsIn-from_Contains, any_in, in_any, and_first, and_second, in_append, append_left, append_right, in_flat_map, flat_map_in}
 use Rattle.fcg_analysis.proofs.General.Walking.{any_led_goes_on}
 use Rattle.fcg_analysis.proofs.LineLaws.{height, height_less, height_small}
 use Rattle.fcg_join.proofs.Places.{place_of, has_in}
 use Rattle.fcg_join.proofs.Circles.{some_type}
 use Rattle.fcg_join.proofs.MarkLaws.{no_circle}
+
+-- the own numbers, and those of the rows one after the other
+pub joined_rows_are : (links : List (List ℕ)) (own rows : ℕ → List ℕ) (x : ℕ) → IsJoinedRow links own rows x (own x ++ flat_map rows (row links x))
+joined_rows_are links own rows x n = (
+  λ c. (elim (in_append (own x) (flat_map rows (row links x)) n (IsIn-from_Contains _ n c)) [
+    | inl i ↦ inl (Contains-from_IsIn (own x) n i)
+    | inr i ↦ (let y = in_flat_map rows (row links x) n i in inr (y.0, Contains-from_IsIn (row links x) y.0 y.1, Contains-from_IsIn (rows y.0) n y.2))
+  ]),
+  λ h. (elim h [
+    | inl c ↦ Contains-from_IsIn _ n (append_left (own x) (flat_map rows (row links x)) n (IsIn-from_Contains (own x) n c))
+    | inr r ↦ Contains-from_IsIn _ n (append_right (own x) (flat_map rows (row links x)) n (flat_map_in rows (row links x) r.0 n (IsIn-from_Contains (row links x) r.0 r.1) (IsIn-from_Contains (rows r.0) n r.2)))
+  ]),
+)
 
 module _ (types : List Placed) (rows : List (List ℕ)) (h : HasLinks types rows) (says : ℕ → Placed → Bool) (own : ℕ → List ℕ) (starts : HasOwnRows types says own) where
   -- t has a number, or a type above it, or one to which t links has it or has a type above it that does

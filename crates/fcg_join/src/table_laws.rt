@@ -1,6 +1,6 @@
 //! Laws of rows of numbers that are joined along the links of types, and of what is at or below a name by such rows, by
 //! chains and by subclasses.
-ghost use Rattle.std.specs.Prelude.{◌≡◌, ◌↔◌, ◌<◌, ℕ, true, false, List, [], ◌∷◌, ◌++◌, Bool, not, ◌&&◌, ◌||◌, ◌==◌, Contains, All, Some, filter, map, length, slice_get, slice_index_or};
+ghost use Rattle.std.specs.Prelude.{◌≡◌, ◌↔◌, ◌<◌, ℕ, true, false, List, [], ◌∷◌, ◌++◌, Bool, not, ◌&&◌, ◌||◌, ◌==◌, Contains, All, Some, filter, flat_map, map, length, slice_get, slice_index_or};
 ghost use Rattle.std.specs.List.{IsDistinct, list_any, range_with_len};
 ghost use Rattle.std.specs.List.Sorted.{IsStrictlyIncreasing};
 ghost use Rattle.fcg_grammar.specs.Table.{table};
@@ -9,7 +9,7 @@ ghost use Rattle.fcg_analysis.specs.Declarations.{Placed, object_name, is_type, 
 ghost use Rattle.fcg_analysis.specs.Types.{is_above, is_below};
 ghost use Rattle.fcg_analysis.specs.Nodes.{Node};
 ghost use Rattle.fcg_analysis.specs.Laws.Statements.{IsAcyclic};
-ghost use Rattle.fcg_order.specs.Links.{HasLink};
+ghost use Rattle.fcg_order.specs.Links.{row, HasLink};
 ghost use Rattle.fcg_order.specs.Order.{IsOrder};
 ghost use Rattle.fcg_join.specs.Names.{text_at};
 ghost use Rattle.fcg_join.specs.TypeLinks.{HasTypeAt, HasLinks};
@@ -22,6 +22,7 @@ ghost use Rattle.fcg_join.specs.TypeTables.{HasOwnRows, IsUpwardRow, AreUpwardRo
 pub fn rows_are_joined_upward()
     ensures step { (types : List Placed) (links : List (List ℕ)) (own rows : ℕ → List ℕ) (says : ℕ → Placed → Bool) → HasLinks types links → HasOwnRows types says own → (x : ℕ) (t : Placed) (numbers : List ℕ) → HasTypeAt types x t
         → ((y : ℕ) (u : Placed) → HasLink links x y → HasTypeAt types y u → IsUpwardRow types says u (rows y)) → IsJoinedRow links own rows x numbers → IsUpwardRow types says t numbers }
+    ensures joined { (links : List (List ℕ)) (own rows : ℕ → List ℕ) (x : ℕ) → IsJoinedRow links own rows x (own x ++ flat_map rows (row links x)) }
     ensures in_order { (types : List Placed) (links : List (List ℕ)) (own rows : ℕ → List ℕ) (says : ℕ → Placed → Bool) → IsAcyclic types → IsDistinct is_type types → HasLinks types links → HasOwnRows types says own
         → (order before later : List ℕ) → IsOrder links order → (x : ℕ) (t : Placed) (numbers : List ℕ) → order ≡ before ++ x ∷ later → HasTypeAt types x t
         → ((y : ℕ) (u : Placed) → Contains before y → HasTypeAt types y u → IsUpwardRow types says u (rows y)) → IsJoinedRow links own rows x numbers → IsUpwardRow types says t numbers }

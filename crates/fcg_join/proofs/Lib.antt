@@ -8,3 +8,11 @@ pub mod MarkLaws
 pub mod KeyLists
 pub mod NumberLaws
 pub mod KnownMarks
+pub mod NodeNumbers
+pub mod RowLaws
+pub mod MentionRows
+pub mod BelowLists
+pub mod SuperNumbers
+pub mod LinkRows
+pub mod WinnerPlaces
+pub mod SuperRows

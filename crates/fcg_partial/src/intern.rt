@@ -2,8 +2,9 @@
 ghost use Rattle.std.specs.Prelude.{◌≡◌, ◌<◌, ◌^◌, ◌++◌, ◌∷◌, [], length, OnOk, IfOk, IsTrue};
 ghost use Rattle.std.specs.List.{flat_map};
 ghost use Rattle.fcg_grammar.specs.Table.{table, place, Rises};
-ghost use Rattle.fcg_partial.specs.Views.{names_of_ref, names_of_field, names_of_super, ref_row};
-ghost use Rattle.fcg_partial.specs.Internal.Written.{site_names, site_rows, method_rows, view_rows, collected_of_method, collected_of_view, collected};
+ghost use Rattle.fcg_views.specs.NamesIn.{names_of_ref, names_of_field, names_of_super, names_of_site, names_of_method, names_in};
+ghost use Rattle.fcg_partial.specs.Views.{ref_row};
+ghost use Rattle.fcg_partial.specs.Internal.Written.{site_rows, method_rows, view_rows, collected};
 ghost use Rattle.fcg_partial.specs.Internal.Mentions.{IsTextOf};
 
 use crate::mentions::Mentions;
@@ -23,7 +24,7 @@ fn push_ref_names(names: &mut Mentions, target: &Ref) -> Result<(), AllocError>
 }
 
 fn push_site_names(names: &mut Mentions, sites: &[Site]) -> Result<(), AllocError>
-    ensures { OnOk result (names.new ≡ names.old ++ flat_map site_names sites.now) }
+    ensures { OnOk result (names.new ≡ names.old ++ flat_map names_of_site sites.now) }
 {
     for site in sites {
         push_ref_names(names, &site.target)?;
@@ -60,7 +61,7 @@ fn push_field_names(names: &mut Mentions, fields: &[Field]) -> Result<(), AllocE
 }
 
 fn push_method_names(names: &mut Mentions, method: &Method) -> Result<(), AllocError>
-    ensures { OnOk result (names.new ≡ names.old ++ collected_of_method method.now) }
+    ensures { OnOk result (names.new ≡ names.old ++ names_of_method method.now) }
 {
     names.push(&method.name)?;
     names.push(&method.desc)?;
@@ -68,7 +69,7 @@ fn push_method_names(names: &mut Mentions, method: &Method) -> Result<(), AllocE
 }
 
 fn push_methods_names(names: &mut Mentions, methods: &[Method]) -> Result<(), AllocError>
-    ensures { OnOk result (names.new ≡ names.old ++ flat_map collected_of_method methods.now) }
+    ensures { OnOk result (names.new ≡ names.old ++ flat_map names_of_method methods.now) }
 {
     for method in methods {
         push_method_names(names, method)?;
@@ -77,7 +78,7 @@ fn push_methods_names(names: &mut Mentions, methods: &[Method]) -> Result<(), Al
 }
 
 fn push_view_names(names: &mut Mentions, view: &View) -> Result<(), AllocError>
-    ensures { OnOk result (names.new ≡ names.old ++ collected_of_view view.now) }
+    ensures { OnOk result (names.new ≡ names.old ++ names_in view.now) }
 {
     names.forget_places();
     names.push(&view.name)?;

@@ -7,21 +7,13 @@ use Rattle.fcg_views.specs.declared.view.Method.{Method}
 use Rattle.fcg_views.specs.declared.view.Field.{Field}
 use Rattle.fcg_views.specs.declared.view.Site.{Site}
 use Rattle.fcg_partial.specs.Graph.{kind_number, name_text, ref_text, super_number}
-use Rattle.fcg_partial.specs.Views.{names_of_ref, names_of_super, names_of_field, ref_row, super_number_of}
+use Rattle.fcg_views.specs.NamesIn.{names_in}
+use Rattle.fcg_partial.specs.Views.{ref_row, super_number_of}
 use Rattle.fcg_grammar.specs.Table.{place, Rises}
 
 -- ---- the names, each as often as it stands, in the order in which the types are written
-abbrev pub site_names : Site → List (List ℕ)
-site_names s = names_of_ref s.target
-
-abbrev pub collected_of_method : Method → List (List ℕ)
-collected_of_method m = m.name ∷ m.desc ∷ flat_map site_names m.sites
-
-abbrev pub collected_of_view : View → List (List ℕ)
-collected_of_view v = v.name ∷ (names_of_super v.superclass ++ (v.interfaces ++ (flat_map names_of_field v.fields ++ flat_map collected_of_method v.methods)))
-
 abbrev pub collected : List View → List (List ℕ)
-collected views = flat_map collected_of_view views
+collected views = flat_map names_in views
 
 -- ---- the rows of the references that sites name
 abbrev pub site_rows : List (List ℕ) → Site → List (List ℕ)

@@ -9,13 +9,13 @@ ghost use Rattle.fcg_partial.specs.Views.{shown, graph_of, text_of};
 ghost use Rattle.fcg_partial.specs.Reading.{graph_at};
 ghost use Rattle.fcg_partial.specs.Internal.RowPlaces.{text_at, HasText};
 ghost use Rattle.fcg_partial.specs.Accessors.{row_of_type, row_of_field, row_of_method, row_of_site, row_of_ref, HasType, HasInterface, HasField, HasMethod, HasSite, HasRef, type_in, method_in, HasCountsOf, AreBelow, IsRowBelow, IsSuperBelow};
-ghost use Rattle.fcg_partial.specs.Internal.Written.{collected};
+ghost use Rattle.fcg_partial.specs.Internal.Written.{collected, numbers_of};
 ghost use Rattle.fcg_partial.specs.Internal.StandingRows.{IsTypeAt, IsMethodAt, IsRefAt};
 ghost use Rattle.fcg_partial.specs.Sizes.{HasAtMost};
 
 use crate::fault::RecordFault;
 use crate::index::{Index, find_rows};
-use crate::intern::{Hints, collect_names, make_hints, make_name_table, make_ref_table};
+use crate::intern::{RefTable, collect_names, collect_rows, make_name_table};
 use crate::row::{
     FieldRow, MethodRow, RefRow, SiteRow, TypeRow, find_fields, load_field, load_method, load_ref,
     load_site, load_type, load_u4,
@@ -54,26 +54,26 @@ fn tell_bytes(bytes: &[u8])
     ensures { IsBytes bytes.now }
 {}
 
-// The bytes that spell the views, by the table of their names.
+// The bytes that spell the views, by the table of their names and the number in it of each name.
 fn write_views(
     alloc: Global,
     views: &[View],
     names: &[Name],
-    mut hints: Hints,
+    numbers: &[u32],
 ) -> Result<Vec<u8>, AllocError>
     requires fits { name_count views.now < 2 ^ 32 }
     requires valid { All IsValid views.now }
     requires names { names.now ≡ table (collected views.now) }
+    requires numbers { numbers.now ≡ numbers_of names.now (collected views.now) }
     ensures text { IfOk result (λ out. out.items ≡ text_of views.now) }
     ensures graph { IfOk result (λ out. IsGraph (graph_of views.now)) }
 {
-    let refs = make_ref_table(alloc, names, views, &mut hints)?;
-    hints.begin_types(alloc, refs.as_slice())?;
-    write_graph(alloc, names, refs.as_slice(), views, &mut hints)
+    let refs = RefTable::new(alloc, collect_rows(alloc, views, numbers)?)?;
+    write_graph(alloc, names, &refs, views, numbers)
 }
 
 // The bytes that spell the views.
-fn spell_views(alloc: Global, views: &[View]) -> Result<Vec<u8>, AllocError>
+fn spell_views(alloc: Global, views: &Views) -> Result<Vec<u8>, AllocError>
     requires fits { name_count views.now < 2 ^ 32 }
     requires valid { All IsValid views.now }
     ensures text { IfOk result (λ out. out.items ≡ text_of views.now) }
@@ -81,8 +81,8 @@ fn spell_views(alloc: Global, views: &[View]) -> Result<Vec<u8>, AllocError>
 {
     let mentions = collect_names(alloc, views)?;
     let names = make_name_table(alloc, &mentions)?;
-    let hints = make_hints(alloc, names.as_slice(), mentions)?;
-    write_views(alloc, views, names.as_slice(), hints)
+    let numbers = mentions.numbers_in(alloc, names.as_slice())?;
+    write_views(alloc, views.as_slice(), names.as_slice(), numbers.as_slice())
 }
 
 impl Model for PartialGraph {
@@ -111,7 +111,7 @@ impl PartialGraph {
         requires valid { All IsValid views }
         ensures { IfOk result (λ g. g ≡ views) }
     {
-        let bytes = spell_views(alloc, views.as_slice())?;
+        let bytes = spell_views(alloc, &views)?;
         let written = bytes.as_slice();
         if written.len() > MOST_BYTES {
             return Err(NoMemory);

@@ -1,11 +1,14 @@
 -- Items that are written one after the other, with the numbers of their names.
-use Rattle.std.proofs.Common.{◌≡◌, ℕ, ◌+◌, ◌<◌, ◌≤◌, List, [], ◌∷◌, ◌++◌, length, get_or, take, drop, refl, sym, ap, ◌∙◌, append_assoc}
-use Rattle.std.specs.List.{flat_map}
+use Rattle.std.proofs.Common.{◌≡◌, ℕ, zero, suc, ◌+◌, ◌<◌, ◌≤◌, List, [], ◌∷◌, ◌++◌, length, get_or, take, drop, refl, sym, ap, ◌∙◌, append_assoc, arith}
+use Rattle.std.specs.List.{flat_map, AllZip}
 use Rattle.std.proofs.lemmas.List.{append-nil, take_more, take_all, drop_more, drop_all}
 use Rattle.std.proofs.lemmas.List.Concat.{flat_map-cons}
 use Rattle.std.proofs.lemmas.Grind.{flat_map-append}
 use Rattle.fcg_grammar.specs.Table.{place}
 use Rattle.fcg_grammar.proofs.Among.{map_append}
+use Rattle.fcg_views.specs.declared.view.Field.{Field}
+use Rattle.fcg_views.specs.declared.view.View.{View}
+use Rattle.fcg_views.specs.NamesIn.{names_of_field, names_in, names_by, TextNumbers, HasNames}
 use Rattle.fcg_partial.specs.Internal.Written.{numbers_of}
 
 -- the numbers of two lists of names
@@ -48,3 +51,41 @@ module _ {X Y : Type 0} (F : X → List (List ℕ)) (W : List (List ℕ) → X �
     all_done le names more e =
         let s = so_far names more e in
         (s.0 ∙ ap (λ (l : List X). old ++ flat_map (W names) l) (take_all i xs le), s.1 ∙ ap (λ (l : List X). numbers_of names (flat_map F l) ++ more) (drop_all i xs le))
+
+-- numbers that are passed over
+front : (table xs : List (List ℕ)) (more : List ℕ) → drop (length xs) (numbers_of table xs ++ more) ≡ more
+front table [] more = refl
+front table (x ∷ xs) more = front table xs more
+
+pub passed : (table xs ys : List (List ℕ)) (more old new : List ℕ) (n : ℕ) → n ≡ length xs → old ≡ numbers_of table (xs ++ ys) ++ more → new ≡ drop n old → new ≡ numbers_of table ys ++ more
+passed table xs ys more old new n long e is =
+    is ∙ ap (λ (k : ℕ). drop k old) long ∙ ap (drop (length xs)) (split table xs ys more old e) ∙ front table xs (numbers_of table ys ++ more)
+
+pub passed_twice : (table xs ys : List (List ℕ)) (more old between new : List ℕ) (n : ℕ) → n + n ≡ length xs → old ≡ numbers_of table (xs ++ ys) ++ more → between ≡ drop n old → new ≡ drop n between → new ≡ numbers_of table ys ++ more
+passed_twice table xs ys more old between new n long e once twice =
+    passed table xs ys more old new (n + n) long e (twice ∙ ap (drop n) once ∙ again n old)
+  where
+    nothing : (k : ℕ) → drop {A = ℕ} k [] ≡ []
+    nothing zero = refl
+    nothing (suc k) = refl
+
+    again : (k : ℕ) (l : List ℕ) → drop n (drop k l) ≡ drop (k + n) l
+    again zero l = refl
+    again (suc k) [] = nothing n
+    again (suc k) (x ∷ l) = again k l
+
+-- how many names fields have
+pub field_names_many : (fs : List Field) → length fs + length fs ≡ length (flat_map names_of_field fs)
+field_names_many [] = refl
+field_names_many (f ∷ fs) =
+    let n = field_names_many fs in
+    let long = ap (λ (l : List (List ℕ)). length l) (flat_map-cons names_of_field f fs) in
+    omega arith
+
+-- the names of views whose lists are given are those of the lists
+pub listed_names : (vs : List View) (lists : List TextNumbers) → AllZip HasNames vs lists → flat_map names_by lists ≡ flat_map names_in vs
+listed_names [] [] all = refl
+listed_names [] (l ∷ lists) all = absurd all
+listed_names (v ∷ vs) [] all = absurd all
+listed_names (v ∷ vs) (l ∷ lists) all =
+    flat_map-cons names_by l lists ∙ ap (λ (n : List (List ℕ)). n ++ flat_map names_by lists) (sym all.0) ∙ ap (λ (n : List (List ℕ)). names_in v ++ n) (listed_names vs lists all.1) ∙ sym (flat_map-cons names_in v vs)

@@ -237,14 +237,20 @@ fn push_methods_rows(
     Ok(())
 }
 
+fn skip_superclass(superclass: &Option<Name>, numbers: &mut NameNumbers<'_>)
+    ensures { (names : List (List ℕ)) (more : List ℕ) → numbers.old ≡ numbers_of names (names_of_super superclass.now) ++ more → numbers.new ≡ more }
+{
+    if superclass.is_some() {
+        numbers.skip(1);
+    }
+}
+
 // Passes the numbers of a view over, up to those of its methods.
 fn skip_to_methods(view: &View, numbers: &mut NameNumbers<'_>)
     ensures { (names methods : List (List ℕ)) (more : List ℕ) → numbers.old ≡ numbers_of names (names_with view.now methods) ++ more → numbers.new ≡ numbers_of names methods ++ more }
 {
     numbers.skip(1);
-    if view.superclass.is_some() {
-        numbers.skip(1);
-    }
+    skip_superclass(&view.superclass, numbers);
     numbers.skip(view.interfaces.as_slice().len());
     let fields = view.fields.as_slice().len();
     numbers.skip(fields);

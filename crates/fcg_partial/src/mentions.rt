@@ -118,9 +118,10 @@ impl Texts {
         requires few { length names.now < 2 ^ 32 }
         ensures { IfOk result (λ numbers. numbers.items ≡ map (place names.now) self.now.items.items) }
     {
+        let texts = self.items.as_slice();
         let guesses = self.guess_numbers(alloc, names)?;
-        let mut numbers = Vec::with_capacity(alloc, self.items.len())?;
-        for text in &self.items {
+        let mut numbers = Vec::with_capacity(alloc, texts.len())?;
+        for text in texts {
             let guess = guesses.get(numbers.len()).copied().unwrap_or(u32::MAX);
             numbers.push(number_of(names, text, guess))?;
         }
@@ -204,9 +205,10 @@ impl Mentions {
         requires few { length names.now < 2 ^ 32 }
         ensures { IfOk result (λ numbers. numbers.items ≡ map (place names.now) self.now) }
     {
+        let mentions = self.numbers.as_slice();
         let texts = self.texts.numbers_in(alloc, names)?;
-        let mut numbers = Vec::with_capacity(alloc, self.numbers.len())?;
-        for text in &self.numbers {
+        let mut numbers = Vec::with_capacity(alloc, mentions.len())?;
+        for text in mentions {
             numbers.push(texts[*text as usize])?;
         }
         Ok(numbers)

@@ -70,9 +70,9 @@ passed_twice table xs ys more old between new n long e once twice =
     nothing (suc k) = refl
 
     again : (k : ℕ) (l : List ℕ) → drop n (drop k l) ≡ drop (k + n) l
-    again zero l = refl
-    again (suc k) [] = nothing n
-    again (suc k) (x ∷ l) = again k l
+    again zero l = ap (λ (m : ℕ). drop m l) (let same : n ≡ 0 + n = omega arith in same)
+    again (suc k) [] = nothing n ∙ sym (nothing (suc k + n))
+    again (suc k) (x ∷ l) = again k l ∙ ap (λ (m : ℕ). drop m (x ∷ l)) (let same : suc (k + n) ≡ suc k + n = omega arith in same)
 
 -- how many names fields have
 pub field_names_many : (fs : List Field) → length fs + length fs ≡ length (flat_map names_of_field fs)

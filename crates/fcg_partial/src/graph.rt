@@ -68,7 +68,8 @@ fn write_views(
     ensures text { IfOk result (λ out. out.items ≡ text_of views.now) }
     ensures graph { IfOk result (λ out. IsGraph (graph_of views.now)) }
 {
-    let refs = RefTable::new(alloc, collect_rows(alloc, views, numbers)?)?;
+    let rows = collect_rows(alloc, views, numbers)?;
+    let refs = RefTable::new(alloc, rows)?;
     write_graph(alloc, names, &refs, views, numbers)
 }
 

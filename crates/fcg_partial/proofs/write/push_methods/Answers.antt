@@ -1,3 +1,5 @@
+use Rattle.std.proofs.Common.{All, subst}
+use Rattle.std.proofs.lemmas.List.{take_all}
 use Rattle.std.proofs.lemmas.List.Elements.{All-nil}
 use Rattle.fcg_views.specs.NamesIn.{names_of_method}
 use Rattle.fcg_partial.specs.Internal.Written.{written_method}
@@ -17,3 +19,6 @@ loop-method-preserved c = record {
 
 pub returns-clause-text : goal.returns-clause-text
 returns-clause-text c = all_done names_of_method (λ names. written_method names c.args.refs.now) c.args.methods.now c.loop-method.method-index c.args.out.now.items c.loop-method.out.items c.args.numbers.now c.loop-method.numbers c.loop-method.invariant.text c.loop-method-test.false
+
+pub returns-clause-small : goal.returns-clause-small
+returns-clause-small c = subst (All IsSmallMethod) (take_all c.loop-method.method-index c.args.methods.now c.loop-method-test.false) c.loop-method.invariant.small

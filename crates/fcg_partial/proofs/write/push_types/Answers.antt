@@ -1,3 +1,5 @@
+use Rattle.std.proofs.Common.{All, subst}
+use Rattle.std.proofs.lemmas.List.{take_all}
 use Rattle.std.proofs.lemmas.List.Elements.{All-nil}
 use Rattle.fcg_views.specs.NamesIn.{names_in}
 use Rattle.fcg_partial.specs.Internal.Written.{written_type}
@@ -17,3 +19,6 @@ loop-view-preserved c = record {
 
 pub returns-clause-text : goal.returns-clause-text
 returns-clause-text c = all_done names_in (λ names. written_type names c.args.refs.now) c.args.views.now c.loop-view.view-index c.args.out.now.items c.loop-view.out.items c.args.numbers.now c.loop-view.numbers c.loop-view.invariant.text c.loop-view-test.false
+
+pub returns-clause-small : goal.returns-clause-small
+returns-clause-small c = subst (All IsSmallView) (take_all c.loop-view.view-index c.args.views.now c.loop-view-test.false) c.loop-view.invariant.small

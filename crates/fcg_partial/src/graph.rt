@@ -83,7 +83,12 @@ fn spell_views(alloc: Global, views: &Views) -> Result<Vec<u8>, AllocError>
     let mentions = collect_names(alloc, views)?;
     let names = make_name_table(alloc, &mentions)?;
     let numbers = mentions.numbers_in(alloc, names.as_slice())?;
-    write_views(alloc, views.as_slice(), names.as_slice(), numbers.as_slice())
+    write_views(
+        alloc,
+        views.as_slice(),
+        names.as_slice(),
+        numbers.as_slice(),
+    )
 }
 
 impl Model for PartialGraph {
@@ -103,10 +108,12 @@ impl PartialGraph {
     /// The graph of these views. The names in them are fewer than 2^32, which `Views::fits` tells, and each is valid,
     /// which `is_valid` tells.
     ///
-    /// A name is found by its place in its class file. So its bytes are hashed once in each class, and compared with the
-    /// text that was found three times for each time that it stands in the views. Only the distinct texts are sorted, and
-    /// the references, each as often as a site names it; then the bytes are written, and one pass is made over them. More
-    /// than 4,294,967,295 bytes are refused as want of memory.
+    /// Where the views keep their names by the numbers of texts, as those of class files do, each text of a class is
+    /// hashed once, and compared once with the text that is found; else a name is hashed and compared each time that it
+    /// stands. The distinct texts are sorted, and each is looked for in the table once. For each time that a name stands
+    /// no more is done than its number is taken, three times. The references are sorted, each as often as a site names
+    /// it; then the bytes are written, and one pass is made over them. More than 4,294,967,295 bytes are refused as want
+    /// of memory.
     pub fn from_views(alloc: Global, views: Views) -> Result<PartialGraph, NoMemory>
         requires fits { name_count views < 2 ^ 32 }
         requires valid { All IsValid views }

@@ -101,11 +101,7 @@ fn push_names(names: &mut Mentions, views: &[View]) -> Result<(), AllocError>
     Ok(())
 }
 
-fn push_lists(
-    names: &mut Mentions,
-    alloc: Global,
-    lists: &[NameList],
-) -> Result<(), AllocError>
+fn push_lists(names: &mut Mentions, alloc: Global, lists: &[NameList]) -> Result<(), AllocError>
     ensures { OnOk result (names.new ≡ names.old ++ flat_map names_by lists.now) }
 {
     for list in lists {

@@ -4,7 +4,7 @@ ghost use Rattle.std.specs.List.{flat_map};
 ghost use Rattle.fcg_grammar.specs.Table.{table, place, Rises};
 ghost use Rattle.fcg_views.specs.NamesIn.{names_of_ref, names_of_site, names_of_field, names_of_method, names_of_super, names_in, names_by};
 ghost use Rattle.fcg_partial.specs.Views.{ref_row};
-ghost use Rattle.fcg_partial.specs.Internal.Written.{numbers_of, names_with, site_rows, method_rows, view_rows, collected};
+ghost use Rattle.fcg_partial.specs.Internal.Written.{Takes, numbers_of, names_with, site_rows, method_rows, view_rows, collected};
 ghost use Rattle.fcg_partial.specs.Internal.Mentions.{IsTextOf};
 
 use crate::mentions::Mentions;
@@ -186,7 +186,7 @@ pub(crate) fn number_of(names: &[Name], name: &Name, hint: u32) -> u32
 
 // The row of a reference, whose names have the next numbers.
 pub(crate) fn make_row(target: &Ref, numbers: &mut NameNumbers<'_>) -> RefRow4
-    ensures { (names : List (List ℕ)) (more : List ℕ) → numbers.old ≡ numbers_of names (names_of_ref target.now) ++ more → (result ≡ ref_row names target.now) × (numbers.new ≡ more) }
+    ensures { Takes (names_of_ref target.now) numbers.old numbers.new (λ names. result ≡ ref_row names target.now) }
 {
     let owner = numbers.next();
     let name = numbers.next();
@@ -199,7 +199,7 @@ fn push_site_rows(
     sites: &[Site],
     numbers: &mut NameNumbers<'_>,
 ) -> Result<(), AllocError>
-    ensures { (names : List (List ℕ)) (more : List ℕ) → numbers.old ≡ numbers_of names (flat_map names_of_site sites.now) ++ more → OnOk result ((rows.new.items ≡ rows.old.items ++ flat_map (site_rows names) sites.now) × (numbers.new ≡ more)) }
+    ensures { OnOk result (Takes (flat_map names_of_site sites.now) numbers.old numbers.new (λ names. rows.new.items ≡ rows.old.items ++ flat_map (site_rows names) sites.now)) }
 {
     for site in sites {
         let row = make_row(&site.target, numbers);
@@ -213,7 +213,7 @@ fn push_method_rows(
     method: &Method,
     numbers: &mut NameNumbers<'_>,
 ) -> Result<(), AllocError>
-    ensures { (names : List (List ℕ)) (more : List ℕ) → numbers.old ≡ numbers_of names (names_of_method method.now) ++ more → OnOk result ((rows.new.items ≡ rows.old.items ++ method_rows names method.now) × (numbers.new ≡ more)) }
+    ensures { OnOk result (Takes (names_of_method method.now) numbers.old numbers.new (λ names. rows.new.items ≡ rows.old.items ++ method_rows names method.now)) }
 {
     numbers.skip(2);
     push_site_rows(rows, method.sites.as_slice(), numbers)?;
@@ -225,7 +225,7 @@ fn push_methods_rows(
     methods: &[Method],
     numbers: &mut NameNumbers<'_>,
 ) -> Result<(), AllocError>
-    ensures { (names : List (List ℕ)) (more : List ℕ) → numbers.old ≡ numbers_of names (flat_map names_of_method methods.now) ++ more → OnOk result ((rows.new.items ≡ rows.old.items ++ flat_map (method_rows names) methods.now) × (numbers.new ≡ more)) }
+    ensures { OnOk result (Takes (flat_map names_of_method methods.now) numbers.old numbers.new (λ names. rows.new.items ≡ rows.old.items ++ flat_map (method_rows names) methods.now)) }
 {
     for method in methods {
         push_method_rows(rows, method, numbers)?;
@@ -258,7 +258,7 @@ fn push_view_rows(
     view: &View,
     numbers: &mut NameNumbers<'_>,
 ) -> Result<(), AllocError>
-    ensures { (names : List (List ℕ)) (more : List ℕ) → numbers.old ≡ numbers_of names (names_in view.now) ++ more → OnOk result ((rows.new.items ≡ rows.old.items ++ view_rows names view.now) × (numbers.new ≡ more)) }
+    ensures { OnOk result (Takes (names_in view.now) numbers.old numbers.new (λ names. rows.new.items ≡ rows.old.items ++ view_rows names view.now)) }
 {
     skip_to_methods(view, numbers);
     push_methods_rows(rows, view.methods.as_slice(), numbers)?;
@@ -270,7 +270,7 @@ fn push_rows(
     views: &[View],
     numbers: &mut NameNumbers<'_>,
 ) -> Result<(), AllocError>
-    ensures { (names : List (List ℕ)) (more : List ℕ) → numbers.old ≡ numbers_of names (collected views.now) ++ more → OnOk result ((rows.new.items ≡ rows.old.items ++ flat_map (view_rows names) views.now) × (numbers.new ≡ more)) }
+    ensures { OnOk result (Takes (collected views.now) numbers.old numbers.new (λ names. rows.new.items ≡ rows.old.items ++ flat_map (view_rows names) views.now)) }
 {
     for view in views {
         push_view_rows(rows, view, numbers)?;

@@ -6,7 +6,7 @@ ghost use Rattle.fcg_views.specs.NamesIn.{names_of_site, names_of_field, names_o
 ghost use Rattle.fcg_partial.specs.Graph.{kind_number, name_text, ref_text, super_number, FitsName, FitsRef};
 ghost use Rattle.fcg_partial.specs.Views.{super_number_of};
 ghost use Rattle.fcg_partial.specs.SmallNumbers.{IsSmallSite, IsSmallField, IsSmallMethod, IsSmallView};
-ghost use Rattle.fcg_partial.specs.Internal.Written.{AreTables, HasCounts, HasFewSites, collected, names_of_head, names_of_members, numbers_of, written_site, written_field, written_method, written_name, written_head, written_members, written_type, written_tables, written};
+ghost use Rattle.fcg_partial.specs.Internal.Written.{AreTables, HasCounts, HasFewSites, collected, names_of_head, names_of_members, Takes, numbers_of, written_site, written_field, written_method, written_name, written_head, written_members, written_type, written_tables, written};
 
 use crate::index::MAGIC;
 use crate::intern::{RefRow4, RefTable, make_row};
@@ -108,7 +108,7 @@ fn push_site(
     site: &Site,
     numbers: &mut NameNumbers<'_>,
 ) -> Result<(), AllocError>
-    ensures text { (names : List (List ℕ)) (more : List ℕ) → numbers.old ≡ numbers_of names (names_of_site site.now) ++ more → OnOk result ((out.new.items ≡ out.old.items ++ written_site names refs.now site.now) × (numbers.new ≡ more)) }
+    ensures text { OnOk result (Takes (names_of_site site.now) numbers.old numbers.new (λ names. out.new.items ≡ out.old.items ++ written_site names refs.now site.now)) }
     ensures small { OnOk result (IsSmallSite site.now) }
 {
     push_u2(out, site.pc)?;
@@ -124,7 +124,7 @@ fn push_sites(
     sites: &[Site],
     numbers: &mut NameNumbers<'_>,
 ) -> Result<(), AllocError>
-    ensures text { (names : List (List ℕ)) (more : List ℕ) → numbers.old ≡ numbers_of names (flat_map names_of_site sites.now) ++ more → OnOk result ((out.new.items ≡ out.old.items ++ flat_map (written_site names refs.now) sites.now) × (numbers.new ≡ more)) }
+    ensures text { OnOk result (Takes (flat_map names_of_site sites.now) numbers.old numbers.new (λ names. out.new.items ≡ out.old.items ++ flat_map (written_site names refs.now) sites.now)) }
     ensures small { OnOk result (All IsSmallSite sites.now) }
 {
     for site in sites {
@@ -141,7 +141,7 @@ fn push_method(
     numbers: &mut NameNumbers<'_>,
 ) -> Result<(), AllocError>
     requires { HasFewSites method.now }
-    ensures text { (names : List (List ℕ)) (more : List ℕ) → numbers.old ≡ numbers_of names (names_of_method method.now) ++ more → OnOk result ((out.new.items ≡ out.old.items ++ written_method names refs.now method.now) × (numbers.new ≡ more)) }
+    ensures text { OnOk result (Takes (names_of_method method.now) numbers.old numbers.new (λ names. out.new.items ≡ out.old.items ++ written_method names refs.now method.now)) }
     ensures small { OnOk result (IsSmallMethod method.now) }
 {
     let sites = method.sites.as_slice();
@@ -160,7 +160,7 @@ fn push_methods(
     numbers: &mut NameNumbers<'_>,
 ) -> Result<(), AllocError>
     requires { All HasFewSites methods.now }
-    ensures text { (names : List (List ℕ)) (more : List ℕ) → numbers.old ≡ numbers_of names (flat_map names_of_method methods.now) ++ more → OnOk result ((out.new.items ≡ out.old.items ++ flat_map (written_method names refs.now) methods.now) × (numbers.new ≡ more)) }
+    ensures text { OnOk result (Takes (flat_map names_of_method methods.now) numbers.old numbers.new (λ names. out.new.items ≡ out.old.items ++ flat_map (written_method names refs.now) methods.now)) }
     ensures small { OnOk result (All IsSmallMethod methods.now) }
 {
     for method in methods {
@@ -174,7 +174,7 @@ fn push_field(
     field: &Field,
     numbers: &mut NameNumbers<'_>,
 ) -> Result<(), AllocError>
-    ensures text { (names : List (List ℕ)) (more : List ℕ) → numbers.old ≡ numbers_of names (names_of_field field.now) ++ more → OnOk result ((out.new.items ≡ out.old.items ++ written_field names field.now) × (numbers.new ≡ more)) }
+    ensures text { OnOk result (Takes (names_of_field field.now) numbers.old numbers.new (λ names. out.new.items ≡ out.old.items ++ written_field names field.now)) }
     ensures small { OnOk result (IsSmallField field.now) }
 {
     push_u4(out, numbers.next())?;
@@ -188,7 +188,7 @@ fn push_fields(
     fields: &[Field],
     numbers: &mut NameNumbers<'_>,
 ) -> Result<(), AllocError>
-    ensures text { (names : List (List ℕ)) (more : List ℕ) → numbers.old ≡ numbers_of names (flat_map names_of_field fields.now) ++ more → OnOk result ((out.new.items ≡ out.old.items ++ flat_map (written_field names) fields.now) × (numbers.new ≡ more)) }
+    ensures text { OnOk result (Takes (flat_map names_of_field fields.now) numbers.old numbers.new (λ names. out.new.items ≡ out.old.items ++ flat_map (written_field names) fields.now)) }
     ensures small { OnOk result (All IsSmallField fields.now) }
 {
     for field in fields {
@@ -202,7 +202,7 @@ fn push_interfaces(
     interfaces: &[Name],
     numbers: &mut NameNumbers<'_>,
 ) -> Result<(), AllocError>
-    ensures { (names : List (List ℕ)) (more : List ℕ) → numbers.old ≡ numbers_of names (interfaces.now) ++ more → OnOk result ((out.new.items ≡ out.old.items ++ flat_map (written_name names) interfaces.now) × (numbers.new ≡ more)) }
+    ensures { OnOk result (Takes interfaces.now numbers.old numbers.new (λ names. out.new.items ≡ out.old.items ++ flat_map (written_name names) interfaces.now)) }
 {
     for _name in interfaces {
         push_u4(out, numbers.next())?;
@@ -212,7 +212,7 @@ fn push_interfaces(
 
 // The number of a superclass, or the one that stands for none.
 fn super_number(superclass: &Option<Name>, numbers: &mut NameNumbers<'_>) -> u32
-    ensures { (names : List (List ℕ)) (more : List ℕ) → numbers.old ≡ numbers_of names (names_of_super superclass.now) ++ more → (result ≡ super_number (super_number_of names superclass.now)) × (numbers.new ≡ more) }
+    ensures { Takes (names_of_super superclass.now) numbers.old numbers.new (λ names. result ≡ super_number (super_number_of names superclass.now)) }
 {
     match superclass {
         Some(_) => numbers.next(),
@@ -228,7 +228,7 @@ fn push_head(
     numbers: &mut NameNumbers<'_>,
 ) -> Result<(), AllocError>
     requires { HasCounts view.now }
-    ensures text { (names : List (List ℕ)) (more : List ℕ) → numbers.old ≡ numbers_of names (names_of_head view.now) ++ more → OnOk result ((out.new.items ≡ out.old.items ++ written_head names view.now) × (numbers.new ≡ more)) }
+    ensures text { OnOk result (Takes (names_of_head view.now) numbers.old numbers.new (λ names. out.new.items ≡ out.old.items ++ written_head names view.now)) }
     ensures small { OnOk result (view.now.flags < 2 ^ 16) }
 {
     let interfaces = view.interfaces.as_slice();
@@ -249,7 +249,7 @@ fn push_members(
     numbers: &mut NameNumbers<'_>,
 ) -> Result<(), AllocError>
     requires { HasCounts view.now }
-    ensures text { (names : List (List ℕ)) (more : List ℕ) → numbers.old ≡ numbers_of names (names_of_members view.now) ++ more → OnOk result ((out.new.items ≡ out.old.items ++ written_members names refs.now view.now) × (numbers.new ≡ more)) }
+    ensures text { OnOk result (Takes (names_of_members view.now) numbers.old numbers.new (λ names. out.new.items ≡ out.old.items ++ written_members names refs.now view.now)) }
     ensures small { OnOk result ((All IsSmallField view.now.fields) × (All IsSmallMethod view.now.methods)) }
 {
     let fields = view.fields.as_slice();
@@ -269,7 +269,7 @@ fn push_type(
     numbers: &mut NameNumbers<'_>,
 ) -> Result<(), AllocError>
     requires { HasCounts view.now }
-    ensures text { (names : List (List ℕ)) (more : List ℕ) → numbers.old ≡ numbers_of names (names_in view.now) ++ more → OnOk result ((out.new.items ≡ out.old.items ++ written_type names refs.now view.now) × (numbers.new ≡ more)) }
+    ensures text { OnOk result (Takes (names_in view.now) numbers.old numbers.new (λ names. out.new.items ≡ out.old.items ++ written_type names refs.now view.now)) }
     ensures small { OnOk result (IsSmallView view.now) }
 {
     push_head(out, view, numbers)?;
@@ -284,7 +284,7 @@ fn push_types(
     numbers: &mut NameNumbers<'_>,
 ) -> Result<(), AllocError>
     requires { All HasCounts views.now }
-    ensures text { (names : List (List ℕ)) (more : List ℕ) → numbers.old ≡ numbers_of names (collected views.now) ++ more → OnOk result ((out.new.items ≡ out.old.items ++ flat_map (written_type names refs.now) views.now) × (numbers.new ≡ more)) }
+    ensures text { OnOk result (Takes (collected views.now) numbers.old numbers.new (λ names. out.new.items ≡ out.old.items ++ flat_map (written_type names refs.now) views.now)) }
     ensures small { OnOk result (All IsSmallView views.now) }
 {
     for view in views {

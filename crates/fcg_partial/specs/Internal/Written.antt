@@ -1,5 +1,5 @@
 -- What is collected from the views, and what is written of them with the numbers of two tables, view by view.
-use Rattle.std.specs.Prelude.{ℕ, List, ◌++◌, ◌∷◌, [], ◌<◌, ◌^◌, length, All, map}
+use Rattle.std.specs.Prelude.{◌≡◌, ℕ, List, ◌++◌, ◌∷◌, [], ◌<◌, ◌^◌, length, All, map}
 use Rattle.std.specs.List.{flat_map}
 use Rattle.fcg_grammar.specs.Spell.{u2, u4}
 use Rattle.fcg_views.specs.declared.view.View.{View}
@@ -29,6 +29,11 @@ names_of_members v = flat_map names_of_field v.fields ++ flat_map names_of_metho
 -- the numbers that names have in a table
 abbrev pub numbers_of : List (List ℕ) → List (List ℕ) → List ℕ
 numbers_of table names = map (place table) names
+
+-- Of numbers that begin with those of these names in a table, whichever table and whatever follows, these are taken, and
+-- this holds for the table.
+abbrev pub Takes : List (List ℕ) → List ℕ → List ℕ → (List (List ℕ) → Type 0) → Type 0
+Takes names old new Holds = (table : List (List ℕ)) (more : List ℕ) → old ≡ numbers_of table names ++ more → Holds table × (new ≡ more)
 
 -- ---- the rows of the references that sites name
 abbrev pub site_rows : List (List ℕ) → Site → List (List ℕ)

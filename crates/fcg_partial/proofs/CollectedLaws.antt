@@ -8,8 +8,10 @@ use Rattle.fcg_views.specs.declared.view.View.{View}
 use Rattle.fcg_views.specs.declared.view.Method.{Method}
 use Rattle.fcg_views.specs.declared.view.Site.{Site}
 use Rattle.fcg_views.specs.declared.view.Ref.{Ref}
-use Rattle.fcg_partial.specs.Views.{names_of_ref, names_of_super, names_of_field, names_of_method, names_of_view, targets_of_method, targets_of_view, targets_of, mentions}
-use Rattle.fcg_partial.specs.Internal.Written.{site_names, collected_of_method, collected_of_view, collected}
+use Rattle.fcg_views.specs.NamesIn.{names_of_ref, names_of_super, names_of_field, names_of_site, names_in}
+use Rattle.fcg_views.specs.NamesIn as all_names
+use Rattle.fcg_partial.specs.Views.{names_of_method, names_of_view, targets_of_method, targets_of_view, targets_of, mentions}
+use Rattle.fcg_partial.specs.Internal.Written.{collected}
 
 -- lists of the same members have one table
 pub same_table : (xs ys : List (List ℕ)) → ((z : List ℕ) → Among z xs → Among z ys) → ((z : List ℕ) → Among z ys → Among z xs) → table xs ≡ table ys
@@ -50,7 +52,7 @@ named_front : (v : View) → names_of_view v ≡ front v (flat_map names_of_meth
 unfolding front
 named_front v = refl
 
-collected_front : (v : View) → collected_of_view v ≡ front v (flat_map collected_of_method v.methods)
+collected_front : (v : View) → names_in v ≡ front v (flat_map all_names.names_of_method v.methods)
 unfolding front
 collected_front v = refl
 
@@ -61,38 +63,38 @@ module _ (vs : List View) (x : List ℕ) where
   of_method : (v : View) → Among v vs → (m : Method) → Among m v.methods → Among x (names_of_method m) → Among x (mentions vs)
   of_method v av m am h = of_names v av (subst (λ (l : List (List ℕ)). Among x l) (sym (named_front v)) (front_right v (flat_map names_of_method v.methods) x (among_flat names_of_method m x v.methods am h)))
 
-  of_site : (v : View) → Among v vs → (m : Method) → Among m v.methods → (s : Site) → Among s m.sites → Among x (site_names s) → Among x (mentions vs)
+  of_site : (v : View) → Among v vs → (m : Method) → Among m v.methods → (s : Site) → Among s m.sites → Among x (names_of_site s) → Among x (mentions vs)
   of_site v av m am s at h =
       let target = among_flat targets_of_view v s.target vs av (among_flat targets_of_method m s.target v.methods am (among_map (λ (y : Site). y.target) s m.sites at)) in
       among_left x (flat_map names_of_ref (targets_of vs)) (flat_map names_of_view vs) (among_flat names_of_ref s.target x (targets_of vs) target h)
 
-  to_method : (v : View) → Among v vs → (m : Method) → Among m v.methods → Among x (collected_of_method m) → Among x (mentions vs)
+  to_method : (v : View) → Among v vs → (m : Method) → Among m v.methods → Among x (all_names.names_of_method m) → Among x (mentions vs)
   to_method v av m am (inl e) = of_method v av m am (inl e)
   to_method v av m am (inr (inl e)) = of_method v av m am (inr (inl e))
-  to_method v av m am (inr (inr h)) = let s = flat_among site_names x m.sites h in of_site v av m am s.0 s.1 s.2
+  to_method v av m am (inr (inr h)) = let s = flat_among names_of_site x m.sites h in of_site v av m am s.0 s.1 s.2
 
-  to_view : (v : View) → Among v vs → Among x (front v (flat_map names_of_method v.methods)) ⊎ Among x (flat_map collected_of_method v.methods) → Among x (mentions vs)
+  to_view : (v : View) → Among v vs → Among x (front v (flat_map names_of_method v.methods)) ⊎ Among x (flat_map all_names.names_of_method v.methods) → Among x (mentions vs)
   to_view v av (inl h) = of_names v av (subst (λ (l : List (List ℕ)). Among x l) (sym (named_front v)) h)
-  to_view v av (inr h) = let m = flat_among collected_of_method x v.methods h in to_method v av m.0 m.1 m.2
+  to_view v av (inr h) = let m = flat_among all_names.names_of_method x v.methods h in to_method v av m.0 m.1 m.2
 
   to_mentions : Among x (collected vs) → Among x (mentions vs)
   to_mentions h =
-      let v = flat_among collected_of_view x vs h in
-      to_view v.0 v.1 (front_left v.0 (flat_map collected_of_method v.0.methods) (flat_map names_of_method v.0.methods) x (subst (λ (l : List (List ℕ)). Among x l) (collected_front v.0) v.2))
+      let v = flat_among names_in x vs h in
+      to_view v.0 v.1 (front_left v.0 (flat_map all_names.names_of_method v.0.methods) (flat_map names_of_method v.0.methods) x (subst (λ (l : List (List ℕ)). Among x l) (collected_front v.0) v.2))
 
   -- ---- and back
-  back_view : (v : View) → Among v vs → Among x (front v (flat_map collected_of_method v.methods)) → Among x (collected vs)
-  back_view v av h = among_flat collected_of_view v x vs av (subst (λ (l : List (List ℕ)). Among x l) (sym (collected_front v)) h)
+  back_view : (v : View) → Among v vs → Among x (front v (flat_map all_names.names_of_method v.methods)) → Among x (collected vs)
+  back_view v av h = among_flat names_in v x vs av (subst (λ (l : List (List ℕ)). Among x l) (sym (collected_front v)) h)
 
-  back_method : (v : View) → Among v vs → (m : Method) → Among m v.methods → Among x (collected_of_method m) → Among x (collected vs)
-  back_method v av m am h = back_view v av (front_right v (flat_map collected_of_method v.methods) x (among_flat collected_of_method m x v.methods am h))
+  back_method : (v : View) → Among v vs → (m : Method) → Among m v.methods → Among x (all_names.names_of_method m) → Among x (collected vs)
+  back_method v av m am h = back_view v av (front_right v (flat_map all_names.names_of_method v.methods) x (among_flat all_names.names_of_method m x v.methods am h))
 
-  own_names : (m : Method) → Among x (names_of_method m) → Among x (collected_of_method m)
+  own_names : (m : Method) → Among x (names_of_method m) → Among x (all_names.names_of_method m)
   own_names m (inl e) = inl e
   own_names m (inr (inl e)) = inr (inl e)
   own_names m (inr (inr h)) = absurd h
 
-  back_own : (v : View) → Among v vs → Among x (front v (flat_map collected_of_method v.methods)) ⊎ Among x (flat_map names_of_method v.methods) → Among x (collected vs)
+  back_own : (v : View) → Among v vs → Among x (front v (flat_map all_names.names_of_method v.methods)) ⊎ Among x (flat_map names_of_method v.methods) → Among x (collected vs)
   back_own v av (inl h) = back_view v av h
   back_own v av (inr h) = let m = flat_among names_of_method x v.methods h in back_method v av m.0 m.1 (own_names m.0 m.2)
 
@@ -102,14 +104,14 @@ module _ (vs : List View) (x : List ℕ) where
       let v = flat_among targets_of_view r.0 vs r.1 in
       let m = flat_among targets_of_method r.0 v.0.methods v.2 in
       let s = map_among (λ (y : Site). y.target) r.0 m.0.sites m.2 in
-      let here : Among x (site_names s.0) = subst (λ (t : Ref). Among x (names_of_ref t)) (sym s.2) r.2 in
-      back_method v.0 v.1 m.0 m.1 (inr (inr (among_flat site_names s.0 x m.0.sites s.1 here)))
+      let here : Among x (names_of_site s.0) = subst (λ (t : Ref). Among x (names_of_ref t)) (sym s.2) r.2 in
+      back_method v.0 v.1 m.0 m.1 (inr (inr (among_flat names_of_site s.0 x m.0.sites s.1 here)))
 
   back : Among x (flat_map names_of_ref (targets_of vs)) ⊎ Among x (flat_map names_of_view vs) → Among x (collected vs)
   back (inl h) = back_target h
   back (inr h) =
       let v = flat_among names_of_view x vs h in
-      back_own v.0 v.1 (front_left v.0 (flat_map names_of_method v.0.methods) (flat_map collected_of_method v.0.methods) x (subst (λ (l : List (List ℕ)). Among x l) (named_front v.0) v.2))
+      back_own v.0 v.1 (front_left v.0 (flat_map names_of_method v.0.methods) (flat_map all_names.names_of_method v.0.methods) x (subst (λ (l : List (List ℕ)). Among x l) (named_front v.0) v.2))
 
 pub collected_table : (vs : List View) → table (collected vs) ≡ table (mentions vs)
 collected_table vs = same_table (collected vs) (mentions vs) (λ z h. to_mentions vs z h) (λ z h. back vs z (among_either z (flat_map names_of_ref (targets_of vs)) (flat_map names_of_view vs) h))

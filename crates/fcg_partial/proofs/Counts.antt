@@ -14,8 +14,8 @@ use Rattle.fcg_views.specs.declared.view.Site.{Site}
 use Rattle.fcg_views.specs.declared.view.Ref.{Ref}
 use Rattle.fcg_views.specs.Valid.{method_names, view_names, name_count, count_of_option}
 use Rattle.fcg_grammar.specs.Table.{table, put, by, order}
-use Rattle.fcg_partial.specs.Views.{names_of_ref, names_of_super, names_of_field, names_of_method, names_of_view, targets_of, mentions, names_of, refs_of, ref_row}
-use Rattle.fcg_partial.specs.Internal.Written.{site_names}
+use Rattle.fcg_views.specs.NamesIn.{names_of_ref, names_of_super, names_of_field, names_of_site}
+use Rattle.fcg_partial.specs.Views.{names_of_method, names_of_view, targets_of, mentions, names_of, refs_of, ref_row}
 use Rattle.fcg_partial.proofs.IndexLaws.{length_map}
 use Rattle.fcg_partial.proofs.SpelledViews.{method_site_names, view_site_names, mentions_are}
 
@@ -34,9 +34,9 @@ unfolding table
 length_table [] = omega arith
 length_table (x ∷ xs) = let a = length_table xs in let b = length_put x (table xs) in omega arith
 
-count_sites : (ss : List Site) → length (flat_map site_names ss) ≡ 3 * length ss
+count_sites : (ss : List Site) → length (flat_map names_of_site ss) ≡ 3 * length ss
 count_sites [] = refl
-count_sites (s ∷ ss) = let a = ap (λ (l : List (List ℕ)). length l) (flat_map-cons site_names s ss) in let b = count_sites ss in omega arith
+count_sites (s ∷ ss) = let a = ap (λ (l : List (List ℕ)). length l) (flat_map-cons names_of_site s ss) in let b = count_sites ss in omega arith
 
 count_fields : (fs : List Field) → length (flat_map names_of_field fs) ≡ 2 * length fs
 count_fields [] = refl

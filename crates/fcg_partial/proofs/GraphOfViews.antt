@@ -16,7 +16,8 @@ use Rattle.fcg_views.specs.Valid as valid
 use Rattle.fcg_views.specs.Valid.{IsShort, IsShortOrNone, HasShortNames, IsValidField, IsValidMethod, IsValid, name_count, is_alike}
 use Rattle.fcg_grammar.specs.Table.{table, place}
 use Rattle.fcg_partial.specs.Graph.{Graph, StoredSite, FitsName, FitsRef, FitsType, IsUsed, IsGraph, key, site_count, ref_uses, super_uses, field_uses, method_uses, type_uses, name_uses, method_targets, type_targets, ref_uses_of}
-use Rattle.fcg_partial.specs.Views.{names_of_ref, names_of_super, names_of_field, names_of_method, names_of_view, targets_of_method, targets_of_view, targets_of, mentions, names_of, refs_of, ref_row, super_number_of, site_row, field_row, method_row, type_row, graph_by, graph_of}
+use Rattle.fcg_views.specs.NamesIn.{names_of_ref, names_of_super, names_of_field}
+use Rattle.fcg_partial.specs.Views.{names_of_method, names_of_view, targets_of_method, targets_of_view, targets_of, mentions, names_of, refs_of, ref_row, super_number_of, site_row, field_row, method_row, type_row, graph_by, graph_of}
 use Rattle.fcg_partial.specs.SmallNumbers.{IsSmallSite, IsSmallField, IsSmallMethod, IsSmallView}
 use Rattle.fcg_partial.specs.Internal.Written.{HasFewSites, HasCounts}
 use Rattle.fcg_grammar.proofs.TableLaws.{table_rises, table_among, among_table, at_place, place_at}

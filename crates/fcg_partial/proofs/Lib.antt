@@ -18,6 +18,7 @@ pub mod PlaceLaws
 pub mod IndexLaws
 pub mod KeptLaws
 pub mod WrittenLaws
+pub mod NumberedLaws
 pub mod SpelledViews
 pub mod Counts
 pub mod GraphOfViews

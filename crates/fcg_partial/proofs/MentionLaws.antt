@@ -1,8 +1,8 @@
 -- Names that are collected by the numbers of texts.
-use Rattle.std.proofs.Common.{◌≡◌, ℕ, zero, suc, ◌<◌, ◌⊎◌, inl, inr, List, [], ◌∷◌, ◌++◌, length, refl, sym, ap, subst, ◌∙◌, arith}
+use Rattle.std.proofs.Common.{◌≡◌, ℕ, zero, suc, ◌+◌, ◌<◌, ◌⊎◌, inl, inr, List, [], ◌∷◌, ◌++◌, length, get_or, take, drop, refl, sym, ap, subst, ◌∙◌, append_assoc, arith}
 use Rattle.std.specs.Prelude.{map}
 use Rattle.std.specs.List.{AllByRecursion, Contains}
-use Rattle.std.proofs.lemmas.List.{length-append, append-nil}
+use Rattle.std.proofs.lemmas.List.{length-append, append-nil, take_more}
 use Rattle.fcg_grammar.specs.Table.{Rises, table, place}
 use Rattle.fcg_grammar.proofs.Among.{Among, Contains-among, among_from_contains, among_at, among_all, among_left, among_right, among_either, map_among, map_append}
 use Rattle.fcg_grammar.proofs.TableLaws.{place_at}
@@ -59,6 +59,40 @@ module _ (old new : List (List ℕ)) (numbers : List ℕ) (name : List ℕ) (n :
     below = below_more numbers are.below;
     named = λ x c. subst (λ (l : List (List ℕ)). Contains l x) (sym mentions_more) (named_now x (among_either x old more.more (subst (λ (l : List (List ℕ)). Among x l) more.new_is (among_from_contains x new c))));
   }
+
+-- names of a list that are added one after the other
+pub listed_more : (old new : List (List ℕ)) (numbers : List ℕ) (listed : List (List ℕ)) (ns : List ℕ) (i d n : ℕ) (before : List (List ℕ)) → i < length ns → AreMentions old numbers → Extends old new (name_in listed (get_or ns i d)) n → map (name_in old) numbers ≡ before ++ map (name_in listed) (take i ns) → map (name_in new) (numbers ++ n ∷ []) ≡ before ++ map (name_in listed) (take (i + 1) ns)
+listed_more old new numbers listed ns i d n before lt are more so_far =
+    let name = name_in listed (get_or ns i d) in
+    mentions_more old new numbers name n are more
+    ∙ ap (λ (l : List (List ℕ)). l ++ name ∷ []) so_far
+    ∙ append_assoc before (map (name_in listed) (take i ns)) (name ∷ [])
+    ∙ ap (λ (l : List (List ℕ)). before ++ l) (sym (ap (map (name_in listed)) (take_more ns i d lt) ∙ map_append (name_in listed) (take i ns) (get_or ns i d ∷ [])))
+
+-- a list that was written over whole
+pub written_over : {X : Type 0} (n : ℕ) (new old : List X) → length new ≡ n → take n (new ++ drop (length new) old) ≡ new
+written_over n new old long = ap (λ (k : ℕ). take k (new ++ drop (length new) old)) (sym long) ∙ take_front new (drop (length new) old)
+  where
+    take_front : {X : Type 0} (xs ys : List X) → take (length xs) (xs ++ ys) ≡ xs
+    take_front [] ys = refl
+    take_front (x ∷ xs) ys = ap (λ l. x ∷ l) (take_front xs ys)
+
+-- the number of a name has a text
+pub below_at : (count : ℕ) (numbers : List ℕ) (i d : ℕ) → AllByRecursion (λ n. n < count) numbers → i < length numbers → get_or numbers i d < count
+below_at count numbers i d below lt = among_all (λ n. n < count) numbers (get_or numbers i d) below (among_at numbers i d lt)
+
+-- the places in a table of the texts of numbers
+pub places_of_texts : (table texts : List (List ℕ)) (places numbers : List ℕ) → places ≡ map (place table) texts → AllByRecursion (λ n. n < length texts) numbers → map (λ n. get_or places n 0) numbers ≡ map (place table) (map (name_in texts) numbers)
+places_of_texts table texts places numbers is below = ap (λ (l : List ℕ). map (λ n. get_or l n 0) numbers) is ∙ each numbers below
+  where
+    at : (xs : List (List ℕ)) (k : ℕ) → k < length xs → get_or (map (place table) xs) k 0 ≡ place table (name_in xs k)
+    at [] k lt = absurd (omega arith)
+    at (x ∷ xs) zero lt = refl
+    at (x ∷ xs) (suc k) lt = at xs k (omega arith)
+
+    each : (ns : List ℕ) → AllByRecursion (λ n. n < length texts) ns → map (λ n. get_or (map (place table) texts) n 0) ns ≡ map (place table) (map (name_in texts) ns)
+    each [] all = refl
+    each (n ∷ ns) all = let a = at texts n all.0 in let b = each ns all.1 in cc
 
 -- the table of the texts is that of the names
 pub texts_table : (texts : List (List ℕ)) (numbers : List ℕ) → AreMentions texts numbers → table texts ≡ table (map (name_in texts) numbers)

@@ -6,7 +6,8 @@ use Rattle.std.proofs.lemmas.Bool.Decides.{nat_tests}
 use Rattle.fcg_views.specs.declared.view.Ref.{Ref}
 use Rattle.fcg_grammar.specs.Table.{Rises, IsTable, place}
 use Rattle.fcg_partial.specs.Graph.{Graph, StoredType, StoredField, StoredMethod, StoredSite, number_at, FitsRef, IsUsed, IsGraph, ref_uses, super_uses, field_uses, method_uses, type_uses, name_uses, method_targets, type_targets, ref_uses_of}
-use Rattle.fcg_partial.specs.Views.{name_in, super_in, shown_ref, shown_site, shown_field, shown_method, shown_type, shown, names_of_ref, names_of_super, names_of_field, names_of_method, names_of_view, targets_of_method, targets_of_view, targets_of, mentions, names_of, refs_of, ref_row, super_number_of, site_row, field_row, method_row, type_row, graph_of}
+use Rattle.fcg_views.specs.NamesIn.{names_of_ref, names_of_super, names_of_field}
+use Rattle.fcg_partial.specs.Views.{name_in, super_in, shown_ref, shown_site, shown_field, shown_method, shown_type, shown, names_of_method, names_of_view, targets_of_method, targets_of_view, targets_of, mentions, names_of, refs_of, ref_row, super_number_of, site_row, field_row, method_row, type_row, graph_of}
 use Rattle.fcg_grammar.proofs.Among.{Among, Contains-among, among_at, among_from_contains, place_of, among_left, among_right, among_either, among_all, all_from_among, all_left, all_right, among_map, map_among, among_flat, flat_among, all_flat, map_same, map_map, map_append, flat_map_map}
 use Rattle.fcg_grammar.proofs.TableLaws.{is_table, place_at}
 

@@ -11,9 +11,10 @@ use Rattle.fcg_views.specs.declared.view.Method.{Method}
 use Rattle.fcg_views.specs.declared.view.Field.{Field}
 use Rattle.fcg_views.specs.declared.view.Site.{Site}
 use Rattle.fcg_partial.specs.Graph.{name_text, ref_text, site_text, field_text, method_text, type_text, super_number, spelling}
-use Rattle.fcg_partial.specs.Views.{names_of_ref, names_of_view, targets_of_method, targets_of_view, targets_of, mentions, ref_row, super_number_of, site_row, field_row, method_row, type_row, graph_by}
+use Rattle.fcg_views.specs.NamesIn.{names_of_ref, names_of_site}
+use Rattle.fcg_partial.specs.Views.{names_of_view, targets_of_method, targets_of_view, targets_of, mentions, ref_row, super_number_of, site_row, field_row, method_row, type_row, graph_by}
 use Rattle.fcg_grammar.specs.Table.{place}
-use Rattle.fcg_partial.specs.Internal.Written.{site_names, method_rows, view_rows, written_site, written_field, written_method, written_name, written_head, written_members, written_type, written_tables, written}
+use Rattle.fcg_partial.specs.Internal.Written.{method_rows, view_rows, written_site, written_field, written_method, written_name, written_head, written_members, written_type, written_tables, written}
 use Rattle.fcg_partial.proofs.IndexLaws.{length_map}
 
 flat_append : {X Y : Type 0} (f : X → List Y) (xs ys : List X) → flat_map f (xs ++ ys) ≡ flat_map f xs ++ flat_map f ys
@@ -38,7 +39,7 @@ map_flat f g (x ∷ xs) = ap (map f) (flat_map-cons g x xs) ∙ map_append f (g 
 
 -- ---- the names: those in the references, and then those of the types
 abbrev pub method_site_names : Method → List (List ℕ)
-method_site_names m = flat_map site_names m.sites
+method_site_names m = flat_map names_of_site m.sites
 
 abbrev pub view_site_names : View → List (List ℕ)
 view_site_names v = flat_map method_site_names v.methods

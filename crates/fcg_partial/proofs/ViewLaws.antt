@@ -9,7 +9,8 @@ use Rattle.fcg_views.specs.declared.view.Site.{Site}
 use Rattle.fcg_views.specs.declared.view.Ref.{Ref}
 use Rattle.fcg_grammar.specs.Table.{table, place}
 use Rattle.fcg_partial.specs.Graph.{Graph}
-use Rattle.fcg_partial.specs.Views.{name_in, super_in, shown_ref, shown_site, shown_field, shown_method, shown_type, shown, names_of_ref, names_of_super, names_of_field, names_of_method, names_of_view, targets_of_method, targets_of_view, targets_of, mentions, names_of, refs_of, ref_row, super_number_of, site_row, field_row, method_row, type_row, graph_by, graph_of}
+use Rattle.fcg_views.specs.NamesIn.{names_of_ref, names_of_super, names_of_field}
+use Rattle.fcg_partial.specs.Views.{name_in, super_in, shown_ref, shown_site, shown_field, shown_method, shown_type, shown, names_of_method, names_of_view, targets_of_method, targets_of_view, targets_of, mentions, names_of, refs_of, ref_row, super_number_of, site_row, field_row, method_row, type_row, graph_by, graph_of}
 use Rattle.fcg_grammar.proofs.Among.{Among, among_left, among_right, among_map, among_flat, map_map, all_from_among}
 use Rattle.fcg_grammar.proofs.TableLaws.{table_among, at_place}
 

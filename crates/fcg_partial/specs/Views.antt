@@ -6,6 +6,7 @@ use Rattle.fcg_views.specs.declared.view.Method.{Method}
 use Rattle.fcg_views.specs.declared.view.Field.{Field}
 use Rattle.fcg_views.specs.declared.view.Site.{Site}
 use Rattle.fcg_views.specs.declared.view.Ref.{Ref}
+use Rattle.fcg_views.specs.NamesIn.{names_of_ref, names_of_super, names_of_field}
 use Rattle.fcg_grammar.specs.Table.{table, place}
 use Rattle.fcg_partial.specs.Graph.{number_at, spelling, Graph, StoredType, StoredField, StoredMethod, StoredSite}
 
@@ -50,22 +51,12 @@ unfoldable pub shown : Graph → List View
 shown g = map (shown_type g) g.types
 
 -- ---- from names to numbers
--- the names in a reference, a view
-abbrev pub names_of_ref : Ref → List (List ℕ)
-names_of_ref r = r.owner ∷ r.name ∷ r.desc ∷ []
-
-abbrev pub names_of_super : Option (List ℕ) → List (List ℕ)
-names_of_super None = []
-names_of_super (Some name) = name ∷ []
-
+-- the references and the names of a view
 abbrev pub targets_of_method : Method → List Ref
 targets_of_method m = map (λ s. s.target) m.sites
 
 abbrev pub names_of_method : Method → List (List ℕ)
 names_of_method m = m.name ∷ m.desc ∷ []
-
-abbrev pub names_of_field : Field → List (List ℕ)
-names_of_field f = f.name ∷ f.desc ∷ []
 
 abbrev pub names_of_view : View → List (List ℕ)
 names_of_view v = v.name ∷ (names_of_super v.superclass ++ (v.interfaces ++ (flat_map names_of_field v.fields ++ flat_map names_of_method v.methods)))

@@ -9,13 +9,13 @@ ghost use Rattle.fcg_partial.specs.Views.{shown, graph_of, text_of};
 ghost use Rattle.fcg_partial.specs.Reading.{graph_at};
 ghost use Rattle.fcg_partial.specs.Internal.RowPlaces.{text_at, HasText};
 ghost use Rattle.fcg_partial.specs.Accessors.{row_of_type, row_of_field, row_of_method, row_of_site, row_of_ref, HasType, HasInterface, HasField, HasMethod, HasSite, HasRef, type_in, method_in, HasCountsOf, AreBelow, IsRowBelow, IsSuperBelow};
-ghost use Rattle.fcg_partial.specs.Internal.Written.{collected};
+ghost use Rattle.fcg_partial.specs.Internal.Written.{collected, numbers_of};
 ghost use Rattle.fcg_partial.specs.Internal.StandingRows.{IsTypeAt, IsMethodAt, IsRefAt};
 ghost use Rattle.fcg_partial.specs.Sizes.{HasAtMost};
 
 use crate::fault::RecordFault;
 use crate::index::{Index, find_rows};
-use crate::intern::{Hints, collect_names, make_hints, make_name_table, make_ref_table};
+use crate::intern::{RefTable, collect_names, collect_rows, make_name_table};
 use crate::row::{
     FieldRow, MethodRow, RefRow, SiteRow, TypeRow, find_fields, load_field, load_method, load_ref,
     load_site, load_type, load_u4,
@@ -54,26 +54,27 @@ fn tell_bytes(bytes: &[u8])
     ensures { IsBytes bytes.now }
 {}
 
-// The bytes that spell the views, by the table of their names.
+// The bytes that spell the views, by the table of their names and the number in it of each name.
 fn write_views(
     alloc: Global,
     views: &[View],
     names: &[Name],
-    mut hints: Hints,
+    numbers: &[u32],
 ) -> Result<Vec<u8>, AllocError>
     requires fits { name_count views.now < 2 ^ 32 }
     requires valid { All IsValid views.now }
     requires names { names.now ≡ table (collected views.now) }
+    requires numbers { numbers.now ≡ numbers_of names.now (collected views.now) }
     ensures text { IfOk result (λ out. out.items ≡ text_of views.now) }
     ensures graph { IfOk result (λ out. IsGraph (graph_of views.now)) }
 {
-    let refs = make_ref_table(alloc, names, views, &mut hints)?;
-    hints.begin_types(alloc, refs.as_slice())?;
-    write_graph(alloc, names, refs.as_slice(), views, &mut hints)
+    let rows = collect_rows(alloc, views, numbers)?;
+    let refs = RefTable::new(alloc, rows)?;
+    write_graph(alloc, names, &refs, views, numbers)
 }
 
 // The bytes that spell the views.
-fn spell_views(alloc: Global, views: &[View]) -> Result<Vec<u8>, AllocError>
+fn spell_views(alloc: Global, views: &Views) -> Result<Vec<u8>, AllocError>
     requires fits { name_count views.now < 2 ^ 32 }
     requires valid { All IsValid views.now }
     ensures text { IfOk result (λ out. out.items ≡ text_of views.now) }
@@ -81,8 +82,13 @@ fn spell_views(alloc: Global, views: &[View]) -> Result<Vec<u8>, AllocError>
 {
     let mentions = collect_names(alloc, views)?;
     let names = make_name_table(alloc, &mentions)?;
-    let hints = make_hints(alloc, names.as_slice(), mentions)?;
-    write_views(alloc, views, names.as_slice(), hints)
+    let numbers = mentions.numbers_in(alloc, names.as_slice())?;
+    write_views(
+        alloc,
+        views.as_slice(),
+        names.as_slice(),
+        numbers.as_slice(),
+    )
 }
 
 impl Model for PartialGraph {
@@ -102,16 +108,18 @@ impl PartialGraph {
     /// The graph of these views. The names in them are fewer than 2^32, which `Views::fits` tells, and each is valid,
     /// which `is_valid` tells.
     ///
-    /// A name is found by its place in its class file. So its bytes are hashed once in each class, and compared with the
-    /// text that was found three times for each time that it stands in the views. Only the distinct texts are sorted, and
-    /// the references, each as often as a site names it; then the bytes are written, and one pass is made over them. More
-    /// than 4,294,967,295 bytes are refused as want of memory.
+    /// Where the views keep their names by the numbers of texts, as those of class files do, each text of a class is
+    /// hashed once, and compared once with the text that is found; else a name is hashed and compared each time that it
+    /// stands. The distinct texts are sorted, and each is looked for in the table once. For each time that a name stands
+    /// no more is done than its number is taken, three times. The references are sorted, each as often as a site names
+    /// it; then the bytes are written, and one pass is made over them. More than 4,294,967,295 bytes are refused as want
+    /// of memory.
     pub fn from_views(alloc: Global, views: Views) -> Result<PartialGraph, NoMemory>
         requires fits { name_count views < 2 ^ 32 }
         requires valid { All IsValid views }
         ensures { IfOk result (λ g. g ≡ views) }
     {
-        let bytes = spell_views(alloc, views.as_slice())?;
+        let bytes = spell_views(alloc, &views)?;
         let written = bytes.as_slice();
         if written.len() > MOST_BYTES {
             return Err(NoMemory);

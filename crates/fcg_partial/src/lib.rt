@@ -12,6 +12,7 @@ mod laws;
 mod marks;
 mod mentions;
 mod methods;
+mod name_numbers;
 mod names;
 mod number;
 mod refs;

@@ -1,33 +1,24 @@
 //! The names that are collected of some views, each as often as it stands.
-ghost use Rattle.std.specs.Prelude.{◌≡◌, ◌++◌, ◌∷◌, [], length, OnOk, OnErr, IfOk, IfSome};
-ghost use Rattle.fcg_grammar.specs.Table.{table};
-ghost use Rattle.fcg_partial.specs.Internal.Mentions.{IsTextOf, Extends};
+ghost use Rattle.std.specs.Prelude.{◌≡◌, ◌<◌, ◌^◌, ◌++◌, ◌∷◌, [], length, map, OnOk, OnErr, IfOk, IfSome};
+ghost use Rattle.fcg_grammar.specs.Table.{table, place, Rises};
+ghost use Rattle.fcg_views.specs.NamesIn.{text_in, names_by};
+ghost use Rattle.fcg_partial.specs.Internal.Mentions.{IsTextOf, Extends, AreKnown};
 
-use crate::intern::is_text;
-use fcg_views::Name;
+use crate::intern::{is_text, number_of};
+use fcg_views::{Name, NameList};
 use std::alloc::{AllocError, Global};
-use std::collections::BTreeMap;
 use std::hash::{DefaultHasher, Hash, Hasher};
 use std::marker::Model;
 
-// How many rows the table by places has.
-const PLACES: usize = 4096;
+// The most rows of the table by hashes.
+const MOST_ROWS: usize = 524_288;
 
-// How many rows the table by hashes has for each class, and at most.
-const HASHES_OF_A_CLASS: usize = 64;
-
-const MOST_HASHES: usize = 524_288;
-
-// The texts of names. A name is looked for by its place in the block of its class file: in a small table, where another
-// place may have taken its row, and then in a map. After that it is looked for in a table by a hash of its bytes, where
-// another text may have taken its row. It is compared with what is found. So the bytes of a text are hashed once in each
-// class. A text stands more than once where its row was taken; at worst it stands once for each class that has it, so that
-// the time has a bound also where a stranger chooses the texts.
+// The texts of names. A text is looked for in a table by a hash of its bytes, where another text may have taken its row,
+// and is compared with what is found. So it may stand more than once: at worst as often as it is looked for, so that the
+// time has a bound also where a stranger chooses the texts.
 #[derive(Drop)]
 struct Texts {
     items: Vec<Name>,
-    recent: Vec<u32>,
-    by_place: BTreeMap<(u32, u32), u32>,
     by_hash: Vec<u32>,
 }
 
@@ -37,40 +28,14 @@ fn hash_of(name: &Name) -> u64 {
     hasher.finish()
 }
 
-// The row of a name in the table.
-fn row_of(name: &Name) -> usize {
-    (name.place().0 as usize / 4) % PLACES
-}
-
 impl Texts {
-    fn find_recent(&self, name: &Name) -> Option<u32>
-        ensures { IfSome result (λ n. IsTextOf self.now.items.items n name.now) }
-    {
-        let number = *self.recent.get(row_of(name))?;
-        if is_text(&self.items, number, name) {
-            Some(number)
-        } else {
-            None
-        }
-    }
-
-    fn find_by_place(&self, name: &Name) -> Option<u32>
-        ensures { IfSome result (λ n. IsTextOf self.now.items.items n name.now) }
-    {
-        let number = *self.by_place.get(&name.place())?;
-        if is_text(&self.items, number, name) {
-            Some(number)
-        } else {
-            None
-        }
-    }
-
     // The row of a hash in its table.
     fn row_of_hash(&self, hash: u64) -> usize {
         (hash % (self.by_hash.len() as u64).max(1)) as usize
     }
 
-    fn find_by_hash(&self, name: &Name, hash: u64) -> Option<u32>
+    // The number of a text with the hash of its bytes, unless another text took its row.
+    fn find(&self, name: &Name, hash: u64) -> Option<u32>
         ensures { IfSome result (λ n. IsTextOf self.now.items.items n name.now) }
     {
         let number = *self.by_hash.get(self.row_of_hash(hash))?;
@@ -90,7 +55,6 @@ impl Texts {
             return Err(AllocError);
         };
         let copy = name.clone()?;
-        self.by_place.insert(name.place(), number)?;
         self.items.push(copy)?;
         let row = self.row_of_hash(hash);
         if let Some(last) = self.by_hash.get_mut(row) {
@@ -99,37 +63,69 @@ impl Texts {
         Ok(number)
     }
 
-    // The number of a name's text, which is added where it isn't there.
+    // The number of a name's text, which is added where it isn't found.
     fn number(&mut self, name: &Name) -> Result<u32, AllocError>
         ensures ok { IfOk result (λ n. Extends self.old.items.items self.new.items.items name.now n) }
         ensures err { OnErr result (self.new.items.items ≡ self.old.items.items) }
     {
-        if let Some(number) = self.find_recent(name) {
+        let hash = hash_of(name);
+        match self.find(name, hash) {
+            Some(number) => Ok(number),
+            None => self.add(name, hash),
+        }
+    }
+
+    // The number of a text of a list: the known one, or else it is looked for, and known from then on.
+    fn number_listed(
+        &mut self,
+        list: &NameList,
+        text: u16,
+        known: &mut [Option<u32>],
+    ) -> Result<u32, AllocError>
+        requires below { text < length list.now.texts }
+        requires known { AreKnown self.old.items.items list.now.texts known.old }
+        ensures ok { IfOk result (λ n. Extends self.old.items.items self.new.items.items (text_in list.now.texts text) n) }
+        ensures err { OnErr result (self.new.items.items ≡ self.old.items.items) }
+        ensures known { OnOk result (AreKnown self.new.items.items list.now.texts known.new) }
+    {
+        let at = usize::from(text);
+        if let Some(number) = known[at] {
             return Ok(number);
         }
-        let number = self.search(name)?;
-        if let Some(row) = self.recent.get_mut(row_of(name)) {
-            *row = number;
-        }
+        let name = list.text(at)?;
+        let number = self.number(&name)?;
+        known[at] = Some(number);
         Ok(number)
     }
 
-    // The same without the table.
-    fn search(&mut self, name: &Name) -> Result<u32, AllocError>
-        ensures ok { IfOk result (λ n. Extends self.old.items.items self.new.items.items name.now n) }
-        ensures err { OnErr result (self.new.items.items ≡ self.old.items.items) }
+    // For each text the number that it probably has in a table.
+    fn guess_numbers(&self, alloc: Global, names: &[Name]) -> Result<Vec<u32>, AllocError>
+        requires { length names.now < 2 ^ 32 }
     {
-        if let Some(number) = self.find_by_place(name) {
-            return Ok(number);
-        }
-        let hash = hash_of(name);
-        match self.find_by_hash(name, hash) {
-            Some(number) => {
-                self.by_place.insert(name.place(), number)?;
-                Ok(number)
+        let mut numbers = vec![in alloc; u32::MAX; self.items.len()]?;
+        for i in 0..names.len() {
+            let text = self.find(&names[i], hash_of(&names[i])).unwrap_or(u32::MAX);
+            if let Some(number) = numbers.get_mut(text as usize) {
+                *number = i as u32;
             }
-            None => self.add(name, hash),
         }
+        Ok(numbers)
+    }
+
+    // For each text its number in a table.
+    fn numbers_in(&self, alloc: Global, names: &[Name]) -> Result<Vec<u32>, AllocError>
+        requires rises { Rises names.now }
+        requires few { length names.now < 2 ^ 32 }
+        ensures { IfOk result (λ numbers. numbers.items ≡ map (place names.now) self.now.items.items) }
+    {
+        let texts = self.items.as_slice();
+        let guesses = self.guess_numbers(alloc, names)?;
+        let mut numbers = Vec::with_capacity(alloc, texts.len())?;
+        for text in texts {
+            let guess = guesses.get(numbers.len()).copied().unwrap_or(u32::MAX);
+            numbers.push(number_of(names, text, guess))?;
+        }
+        Ok(numbers)
     }
 }
 
@@ -153,29 +149,18 @@ impl Model for Mentions {
 }
 
 impl Mentions {
-    // Without a name, for names of so many classes.
-    pub(crate) fn new(alloc: Global, classes: usize) -> Result<Mentions, AllocError>
+    // Without a name, for names of so many texts.
+    pub(crate) fn new(alloc: Global, texts: usize) -> Result<Mentions, AllocError>
         ensures { IfOk result (λ names. names ≡ []) }
     {
-        let recent = vec![in alloc; 0; PLACES]?;
-        let rows = classes.saturating_mul(HASHES_OF_A_CLASS).min(MOST_HASHES);
-        let by_hash = vec![in alloc; 0; rows]?;
+        let by_hash = vec![in alloc; 0; texts.min(MOST_ROWS)]?;
         Ok(Mentions {
             texts: Texts {
                 items: Vec::new(alloc),
-                recent,
-                by_place: BTreeMap::new(alloc),
                 by_hash,
             },
             numbers: Vec::new(alloc),
         })
-    }
-
-    // Forgets where the names of the last class stand.
-    pub(crate) fn forget_places(&mut self)
-        ensures { self.new ≡ self.old }
-    {
-        self.texts.by_place.clear();
     }
 
     pub(crate) fn push(&mut self, name: &Name) -> Result<(), AllocError>
@@ -187,13 +172,19 @@ impl Mentions {
         Ok(())
     }
 
-    // The number of a name's text, unless another text took its row.
-    pub(crate) fn find(&self, name: &Name) -> Option<u32> {
-        self.texts.find_by_hash(name, hash_of(name))
-    }
-
-    pub(crate) fn texts(&self) -> &[Name] {
-        self.texts.items.as_slice()
+    // Adds the names of a list. Each of its texts is hashed and compared once.
+    pub(crate) fn push_list(&mut self, alloc: Global, list: &NameList) -> Result<(), AllocError>
+        ensures { OnOk result (self.new ≡ self.old ++ names_by list.now) }
+    {
+        let names = list.numbers();
+        let mut known = vec![in alloc; None; list.text_count()]?;
+        self.numbers.reserve(names.len())?;
+        for text in names {
+            self.numbers.reserve(1)?;
+            let number = self.texts.number_listed(list, *text, known.as_mut_slice())?;
+            self.numbers.push(number).unwrap();
+        }
+        Ok(())
     }
 
     // A copy of the texts, which are those of the names.
@@ -208,12 +199,18 @@ impl Mentions {
         Ok(copy)
     }
 
-    // For each name the number that its text has among these.
-    pub(crate) fn renumbered(self, numbers: &[u32]) -> Vec<u32> {
-        let mut own = self.numbers;
-        for i in 0..own.len() {
-            own[i] = numbers.get(own[i] as usize).copied().unwrap_or(0);
+    // For each name its number in a table. Each text is looked for in the table once.
+    pub(crate) fn numbers_in(&self, alloc: Global, names: &[Name]) -> Result<Vec<u32>, AllocError>
+        requires rises { Rises names.now }
+        requires few { length names.now < 2 ^ 32 }
+        ensures { IfOk result (λ numbers. numbers.items ≡ map (place names.now) self.now) }
+    {
+        let mentions = self.numbers.as_slice();
+        let texts = self.texts.numbers_in(alloc, names)?;
+        let mut numbers = Vec::with_capacity(alloc, mentions.len())?;
+        for text in mentions {
+            numbers.push(texts[*text as usize])?;
         }
-        own
+        Ok(numbers)
     }
 }

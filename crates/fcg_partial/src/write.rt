@@ -1,15 +1,16 @@
 //! How a stored graph is written.
-ghost use Rattle.std.specs.Prelude.{◌≡◌, ◌<◌, ◌≤◌, ◌^◌, ◌++◌, ◌∷◌, [], All, length, OnOk, IfOk};
+ghost use Rattle.std.specs.Prelude.{◌≡◌, ◌<◌, ◌≤◌, ◌^◌, ◌++◌, ◌∷◌, [], ℕ, List, All, length, OnOk, IfOk};
 ghost use Rattle.std.specs.List.{flat_map};
 ghost use Rattle.fcg_grammar.specs.Spell.{u2, u4};
-ghost use Rattle.fcg_grammar.specs.Table.{place, Rises};
+ghost use Rattle.fcg_views.specs.NamesIn.{names_of_site, names_of_field, names_of_method, names_of_super, names_in};
 ghost use Rattle.fcg_partial.specs.Graph.{kind_number, name_text, ref_text, super_number, FitsName, FitsRef};
 ghost use Rattle.fcg_partial.specs.Views.{super_number_of};
 ghost use Rattle.fcg_partial.specs.SmallNumbers.{IsSmallSite, IsSmallField, IsSmallMethod, IsSmallView};
-ghost use Rattle.fcg_partial.specs.Internal.Written.{AreTables, HasCounts, HasFewSites, written_site, written_field, written_method, written_name, written_head, written_members, written_type, written_tables, written};
+ghost use Rattle.fcg_partial.specs.Internal.Written.{AreTables, HasCounts, HasFewSites, collected, names_of_head, names_of_members, Takes, numbers_of, written_site, written_field, written_method, written_name, written_head, written_members, written_type, written_tables, written};
 
 use crate::index::MAGIC;
-use crate::intern::{Hints, RefRow4, make_row, number_of, ref_number_of};
+use crate::intern::{RefRow4, RefTable, make_row};
+use crate::name_numbers::NameNumbers;
 use crate::rows::NO_SUPERCLASS;
 use fcg_views::{Field, HandleKind, Method, Name, Site, SiteKind, View};
 use std::alloc::{AllocError, Global};
@@ -103,34 +104,31 @@ fn byte_of(kind: SiteKind) -> u8
 
 fn push_site(
     out: &mut Vec<u8>,
-    names: &[Name],
-    refs: &[RefRow4],
+    refs: &RefTable,
     site: &Site,
-    hints: &mut Hints,
+    numbers: &mut NameNumbers<'_>,
 ) -> Result<(), AllocError>
-    requires { AreTables names.now refs.now }
-    ensures text { OnOk result (out.new.items ≡ out.old.items ++ written_site names.now refs.now site.now) }
+    ensures text { OnOk result (Takes (names_of_site site.now) numbers.old numbers.new (λ names. out.new.items ≡ out.old.items ++ written_site names refs.now site.now)) }
     ensures small { OnOk result (IsSmallSite site.now) }
 {
     push_u2(out, site.pc)?;
     out.push(byte_of(site.kind))?;
-    let row = make_row(names, &site.target, hints);
-    push_u4(out, ref_number_of(refs, &row, hints.find_ref(&row)))
+    let row = make_row(&site.target, numbers);
+    push_u4(out, refs.number_of(&row))?;
+    Ok(())
 }
 
 fn push_sites(
     out: &mut Vec<u8>,
-    names: &[Name],
-    refs: &[RefRow4],
+    refs: &RefTable,
     sites: &[Site],
-    hints: &mut Hints,
+    numbers: &mut NameNumbers<'_>,
 ) -> Result<(), AllocError>
-    requires { AreTables names.now refs.now }
-    ensures text { OnOk result (out.new.items ≡ out.old.items ++ flat_map (written_site names.now refs.now) sites.now) }
+    ensures text { OnOk result (Takes (flat_map names_of_site sites.now) numbers.old numbers.new (λ names. out.new.items ≡ out.old.items ++ flat_map (written_site names refs.now) sites.now)) }
     ensures small { OnOk result (All IsSmallSite sites.now) }
 {
     for site in sites {
-        push_site(out, names, refs, site, hints)?;
+        push_site(out, refs, site, numbers)?;
     }
     Ok(())
 }
@@ -138,100 +136,86 @@ fn push_sites(
 #[tactic(auto, unfolding(crate::specs::Internal::Written::written_method))]
 fn push_method(
     out: &mut Vec<u8>,
-    names: &[Name],
-    refs: &[RefRow4],
+    refs: &RefTable,
     method: &Method,
-    hints: &mut Hints,
+    numbers: &mut NameNumbers<'_>,
 ) -> Result<(), AllocError>
-    requires tables { AreTables names.now refs.now }
-    requires few { HasFewSites method.now }
-    ensures text { OnOk result (out.new.items ≡ out.old.items ++ written_method names.now refs.now method.now) }
+    requires { HasFewSites method.now }
+    ensures text { OnOk result (Takes (names_of_method method.now) numbers.old numbers.new (λ names. out.new.items ≡ out.old.items ++ written_method names refs.now method.now)) }
     ensures small { OnOk result (IsSmallMethod method.now) }
 {
     let sites = method.sites.as_slice();
-    push_u4(out, number_of(names, &method.name, hints.next()))?;
-    push_u4(out, number_of(names, &method.desc, hints.next()))?;
+    push_u4(out, numbers.next())?;
+    push_u4(out, numbers.next())?;
     push_u2(out, method.flags)?;
     push_u4(out, sites.len() as u32)?;
-    push_sites(out, names, refs, sites, hints)?;
+    push_sites(out, refs, sites, numbers)?;
     Ok(())
 }
 
 fn push_methods(
     out: &mut Vec<u8>,
-    names: &[Name],
-    refs: &[RefRow4],
+    refs: &RefTable,
     methods: &[Method],
-    hints: &mut Hints,
+    numbers: &mut NameNumbers<'_>,
 ) -> Result<(), AllocError>
-    requires tables { AreTables names.now refs.now }
-    requires few { All HasFewSites methods.now }
-    ensures text { OnOk result (out.new.items ≡ out.old.items ++ flat_map (written_method names.now refs.now) methods.now) }
+    requires { All HasFewSites methods.now }
+    ensures text { OnOk result (Takes (flat_map names_of_method methods.now) numbers.old numbers.new (λ names. out.new.items ≡ out.old.items ++ flat_map (written_method names refs.now) methods.now)) }
     ensures small { OnOk result (All IsSmallMethod methods.now) }
 {
     for method in methods {
-        push_method(out, names, refs, method, hints)?;
+        push_method(out, refs, method, numbers)?;
     }
     Ok(())
 }
 
 fn push_field(
     out: &mut Vec<u8>,
-    names: &[Name],
     field: &Field,
-    hints: &mut Hints,
+    numbers: &mut NameNumbers<'_>,
 ) -> Result<(), AllocError>
-    requires rises { Rises names.now }
-    requires few { length names.now < 2 ^ 32 }
-    ensures text { OnOk result (out.new.items ≡ out.old.items ++ written_field names.now field.now) }
+    ensures text { OnOk result (Takes (names_of_field field.now) numbers.old numbers.new (λ names. out.new.items ≡ out.old.items ++ written_field names field.now)) }
     ensures small { OnOk result (IsSmallField field.now) }
 {
-    push_u4(out, number_of(names, &field.name, hints.next()))?;
-    push_u4(out, number_of(names, &field.desc, hints.next()))?;
-    push_u2(out, field.flags)
+    push_u4(out, numbers.next())?;
+    push_u4(out, numbers.next())?;
+    push_u2(out, field.flags)?;
+    Ok(())
 }
 
 fn push_fields(
     out: &mut Vec<u8>,
-    names: &[Name],
     fields: &[Field],
-    hints: &mut Hints,
+    numbers: &mut NameNumbers<'_>,
 ) -> Result<(), AllocError>
-    requires rises { Rises names.now }
-    requires few { length names.now < 2 ^ 32 }
-    ensures text { OnOk result (out.new.items ≡ out.old.items ++ flat_map (written_field names.now) fields.now) }
+    ensures text { OnOk result (Takes (flat_map names_of_field fields.now) numbers.old numbers.new (λ names. out.new.items ≡ out.old.items ++ flat_map (written_field names) fields.now)) }
     ensures small { OnOk result (All IsSmallField fields.now) }
 {
     for field in fields {
-        push_field(out, names, field, hints)?;
+        push_field(out, field, numbers)?;
     }
     Ok(())
 }
 
 fn push_interfaces(
     out: &mut Vec<u8>,
-    names: &[Name],
     interfaces: &[Name],
-    hints: &mut Hints,
+    numbers: &mut NameNumbers<'_>,
 ) -> Result<(), AllocError>
-    requires rises { Rises names.now }
-    requires few { length names.now < 2 ^ 32 }
-    ensures { OnOk result (out.new.items ≡ out.old.items ++ flat_map (written_name names.now) interfaces.now) }
+    ensures { OnOk result (Takes interfaces.now numbers.old numbers.new (λ names. out.new.items ≡ out.old.items ++ flat_map (written_name names) interfaces.now)) }
 {
-    for name in interfaces {
-        push_u4(out, number_of(names, name, hints.next()))?;
+    for _name in interfaces {
+        push_u4(out, numbers.next())?;
     }
     Ok(())
 }
 
 // The number of a superclass, or the one that stands for none.
-fn super_number(names: &[Name], superclass: &Option<Name>, hints: &mut Hints) -> u32
-    requires rises { Rises names.now }
-    requires few { length names.now < 2 ^ 32 }
-    ensures { result ≡ super_number (super_number_of names.now superclass.now) }
+fn super_number(superclass: &Option<Name>, numbers: &mut NameNumbers<'_>) -> u32
+    ensures { Takes (names_of_super superclass.now) numbers.old numbers.new (λ names. result ≡ super_number (super_number_of names superclass.now)) }
 {
     match superclass {
-        Some(name) => number_of(names, name, hints.next()),
+        Some(_) => numbers.next(),
         None => NO_SUPERCLASS,
     }
 }
@@ -240,22 +224,19 @@ fn super_number(names: &[Name], superclass: &Option<Name>, hints: &mut Hints) ->
 #[tactic(auto, unfolding(crate::specs::Internal::Written::written_head))]
 fn push_head(
     out: &mut Vec<u8>,
-    names: &[Name],
     view: &View,
-    hints: &mut Hints,
+    numbers: &mut NameNumbers<'_>,
 ) -> Result<(), AllocError>
-    requires rises { Rises names.now }
-    requires few { length names.now < 2 ^ 32 }
-    requires counts { HasCounts view.now }
-    ensures text { OnOk result (out.new.items ≡ out.old.items ++ written_head names.now view.now) }
+    requires { HasCounts view.now }
+    ensures text { OnOk result (Takes (names_of_head view.now) numbers.old numbers.new (λ names. out.new.items ≡ out.old.items ++ written_head names view.now)) }
     ensures small { OnOk result (view.now.flags < 2 ^ 16) }
 {
     let interfaces = view.interfaces.as_slice();
-    push_u4(out, number_of(names, &view.name, hints.next()))?;
+    push_u4(out, numbers.next())?;
     push_u2(out, view.flags)?;
-    push_u4(out, super_number(names, &view.superclass, hints))?;
+    push_u4(out, super_number(&view.superclass, numbers))?;
     push_u2(out, interfaces.len() as u16)?;
-    push_interfaces(out, names, interfaces, hints)?;
+    push_interfaces(out, interfaces, numbers)?;
     Ok(())
 }
 
@@ -263,82 +244,76 @@ fn push_head(
 #[tactic(auto, unfolding(crate::specs::Internal::Written::written_members))]
 fn push_members(
     out: &mut Vec<u8>,
-    names: &[Name],
-    refs: &[RefRow4],
+    refs: &RefTable,
     view: &View,
-    hints: &mut Hints,
+    numbers: &mut NameNumbers<'_>,
 ) -> Result<(), AllocError>
-    requires tables { AreTables names.now refs.now }
-    requires counts { HasCounts view.now }
-    ensures text { OnOk result (out.new.items ≡ out.old.items ++ written_members names.now refs.now view.now) }
+    requires { HasCounts view.now }
+    ensures text { OnOk result (Takes (names_of_members view.now) numbers.old numbers.new (λ names. out.new.items ≡ out.old.items ++ written_members names refs.now view.now)) }
     ensures small { OnOk result ((All IsSmallField view.now.fields) × (All IsSmallMethod view.now.methods)) }
 {
     let fields = view.fields.as_slice();
     let methods = view.methods.as_slice();
     push_u2(out, fields.len() as u16)?;
-    push_fields(out, names, fields, hints)?;
+    push_fields(out, fields, numbers)?;
     push_u2(out, methods.len() as u16)?;
-    push_methods(out, names, refs, methods, hints)?;
+    push_methods(out, refs, methods, numbers)?;
     Ok(())
 }
 
 #[tactic(auto, unfolding(crate::specs::Internal::Written::written_type))]
 fn push_type(
     out: &mut Vec<u8>,
-    names: &[Name],
-    refs: &[RefRow4],
+    refs: &RefTable,
     view: &View,
-    hints: &mut Hints,
+    numbers: &mut NameNumbers<'_>,
 ) -> Result<(), AllocError>
-    requires tables { AreTables names.now refs.now }
-    requires counts { HasCounts view.now }
-    ensures text { OnOk result (out.new.items ≡ out.old.items ++ written_type names.now refs.now view.now) }
+    requires { HasCounts view.now }
+    ensures text { OnOk result (Takes (names_in view.now) numbers.old numbers.new (λ names. out.new.items ≡ out.old.items ++ written_type names refs.now view.now)) }
     ensures small { OnOk result (IsSmallView view.now) }
 {
-    push_head(out, names, view, hints)?;
-    push_members(out, names, refs, view, hints)?;
+    push_head(out, view, numbers)?;
+    push_members(out, refs, view, numbers)?;
     Ok(())
 }
 
 fn push_types(
     out: &mut Vec<u8>,
-    names: &[Name],
-    refs: &[RefRow4],
+    refs: &RefTable,
     views: &[View],
-    hints: &mut Hints,
+    numbers: &mut NameNumbers<'_>,
 ) -> Result<(), AllocError>
-    requires tables { AreTables names.now refs.now }
-    requires counts { All HasCounts views.now }
-    ensures text { OnOk result (out.new.items ≡ out.old.items ++ flat_map (written_type names.now refs.now) views.now) }
+    requires { All HasCounts views.now }
+    ensures text { OnOk result (Takes (collected views.now) numbers.old numbers.new (λ names. out.new.items ≡ out.old.items ++ flat_map (written_type names refs.now) views.now)) }
     ensures small { OnOk result (All IsSmallView views.now) }
 {
     for view in views {
-        push_type(out, names, refs, view, hints)?;
+        push_type(out, refs, view, numbers)?;
     }
     Ok(())
 }
 
-// The bytes that spell the views, with the numbers of these tables. Takes a logarithm of the number of the names and of
-// the references in comparisons for each number.
+// The bytes that spell the views, with the numbers of their names in these tables.
 #[tactic(auto, unfolding(crate::specs::Internal::Written::written))]
 pub(crate) fn write_graph(
     alloc: Global,
     names: &[Name],
-    refs: &[RefRow4],
+    refs: &RefTable,
     views: &[View],
-    hints: &mut Hints,
+    numbers: &[u32],
 ) -> Result<Vec<u8>, AllocError>
     requires tables { AreTables names.now refs.now }
     requires names { All FitsName names.now }
     requires refs { All FitsRef refs.now }
     requires few { length views.now < 2 ^ 32 }
     requires counts { All HasCounts views.now }
+    requires numbers { numbers.now ≡ numbers_of names.now (collected views.now) }
     ensures text { IfOk result (λ out. out.items ≡ written names.now refs.now views.now) }
     ensures small { IfOk result (λ out. All IsSmallView views.now) }
 {
     let mut out = Vec::new(alloc);
-    push_tables(&mut out, names, refs)?;
+    push_tables(&mut out, names, refs.as_slice())?;
     push_u4(&mut out, views.len() as u32)?;
-    push_types(&mut out, names, refs, views, hints)?;
+    push_types(&mut out, refs, views, &mut NameNumbers::new(numbers))?;
     Ok(out)
 }

@@ -1,5 +1,5 @@
 -- What is collected from the views, and what is written of them with the numbers of two tables, view by view.
-use Rattle.std.specs.Prelude.{ℕ, List, ◌++◌, ◌∷◌, [], ◌<◌, ◌^◌, length, All}
+use Rattle.std.specs.Prelude.{◌≡◌, ℕ, List, ◌++◌, ◌∷◌, [], ◌<◌, ◌^◌, length, All, map}
 use Rattle.std.specs.List.{flat_map}
 use Rattle.fcg_grammar.specs.Spell.{u2, u4}
 use Rattle.fcg_views.specs.declared.view.View.{View}
@@ -7,21 +7,33 @@ use Rattle.fcg_views.specs.declared.view.Method.{Method}
 use Rattle.fcg_views.specs.declared.view.Field.{Field}
 use Rattle.fcg_views.specs.declared.view.Site.{Site}
 use Rattle.fcg_partial.specs.Graph.{kind_number, name_text, ref_text, super_number}
-use Rattle.fcg_partial.specs.Views.{names_of_ref, names_of_super, names_of_field, ref_row, super_number_of}
+use Rattle.fcg_views.specs.NamesIn.{names_of_super, names_of_field, names_of_method, names_in}
+use Rattle.fcg_partial.specs.Views.{ref_row, super_number_of}
 use Rattle.fcg_grammar.specs.Table.{place, Rises}
 
 -- ---- the names, each as often as it stands, in the order in which the types are written
-abbrev pub site_names : Site → List (List ℕ)
-site_names s = names_of_ref s.target
-
-abbrev pub collected_of_method : Method → List (List ℕ)
-collected_of_method m = m.name ∷ m.desc ∷ flat_map site_names m.sites
-
-abbrev pub collected_of_view : View → List (List ℕ)
-collected_of_view v = v.name ∷ (names_of_super v.superclass ++ (v.interfaces ++ (flat_map names_of_field v.fields ++ flat_map collected_of_method v.methods)))
-
 abbrev pub collected : List View → List (List ℕ)
-collected views = flat_map collected_of_view views
+collected views = flat_map names_in views
+
+-- the names of a view, with these for those of its methods
+abbrev pub names_with : View → List (List ℕ) → List (List ℕ)
+names_with v methods = v.name ∷ (names_of_super v.superclass ++ (v.interfaces ++ (flat_map names_of_field v.fields ++ methods)))
+
+-- the names of a view up to those of its interfaces, and the others
+abbrev pub names_of_head : View → List (List ℕ)
+names_of_head v = v.name ∷ (names_of_super v.superclass ++ v.interfaces)
+
+abbrev pub names_of_members : View → List (List ℕ)
+names_of_members v = flat_map names_of_field v.fields ++ flat_map names_of_method v.methods
+
+-- the numbers that names have in a table
+abbrev pub numbers_of : List (List ℕ) → List (List ℕ) → List ℕ
+numbers_of table names = map (place table) names
+
+-- Of numbers that begin with those of these names in a table, whichever table and whatever follows, these are taken, and
+-- this holds for the table.
+abbrev pub Takes : List (List ℕ) → List ℕ → List ℕ → (List (List ℕ) → Type 0) → Type 0
+Takes names old new Holds = (table : List (List ℕ)) (more : List ℕ) → old ≡ numbers_of table names ++ more → Holds table × (new ≡ more)
 
 -- ---- the rows of the references that sites name
 abbrev pub site_rows : List (List ℕ) → Site → List (List ℕ)

@@ -1,6 +1,6 @@
 use Rattle.std.proofs.Common.{◌≡◌, ◌++◌, take}
 use Rattle.std.specs.List.{flat_map}
-use Rattle.fcg_partial.specs.Views.{names_of_field}
+use Rattle.fcg_views.specs.NamesIn.{names_of_field}
 use Rattle.fcg_partial.proofs.intern.push_field_names.Given as goal
 
 abbrev pub invariant-loop-field : goal.invariant-loop-field

@@ -1,7 +1,7 @@
 use Rattle.std.proofs.Common.{◌≡◌, ◌++◌, take}
 use Rattle.std.specs.List.{flat_map}
-use Rattle.fcg_partial.specs.Internal.Written.{collected_of_method}
+use Rattle.fcg_views.specs.NamesIn.{names_of_method}
 use Rattle.fcg_partial.proofs.intern.push_methods_names.Given as goal
 
 abbrev pub invariant-loop-method : goal.invariant-loop-method
-invariant-loop-method l = l.names ≡ l.fn.names ++ flat_map collected_of_method (take l.method-index l.methods)
+invariant-loop-method l = l.names ≡ l.fn.names ++ flat_map names_of_method (take l.method-index l.methods)

@@ -1,7 +1,7 @@
-use Rattle.std.proofs.Common.{◌≡◌, ◌++◌, take}
-use Rattle.std.specs.List.{flat_map}
+use Rattle.std.proofs.Common.{◌∷◌, []}
 use Rattle.fcg_partial.specs.Internal.Written.{written_name}
+use Rattle.fcg_partial.proofs.NumberedLaws.{IsSoFar}
 use Rattle.fcg_partial.proofs.write.push_interfaces.Given as goal
 
 abbrev pub invariant-loop-name : goal.invariant-loop-name
-invariant-loop-name l = l.out.items ≡ l.fn.out.items ++ flat_map (written_name l.names) (take l.name-index l.interfaces)
+invariant-loop-name l = IsSoFar (λ name. name ∷ []) written_name l.interfaces l._name-index l.fn.out.items l.out.items l.fn.numbers l.numbers

@@ -18,11 +18,11 @@ invariant_of-result c =
 pub returns-in-Ok : goal.returns-in-Ok
 returns-in-Ok c =
     let same = c.as_slice-written.ensures.value in
-    let read = text_read c.as_slice-written.result.now c.as_slice.result.now c.tell_bytes.ensures c.in_ok-bytes.ensures.graph (same ∙ c.in_ok-bytes.ensures.text) in
-    ap views_in (sym same) ∙ text_views c.as_slice-written.result.now c.as_slice.result.now read ∙ c.as_slice.ensures
+    let read = text_read c.as_slice-written.result.now c.args.views c.tell_bytes.ensures c.in_ok-bytes.ensures.graph (same ∙ c.in_ok-bytes.ensures.text) in
+    ap views_in (sym same) ∙ text_views c.as_slice-written.result.now c.args.views read
 
 pub unreachable-requires : goal.unreachable-requires
 unreachable-requires c =
     let same = c.as_slice-written.ensures.value in
-    let read = text_read c.as_slice-written.result.now c.as_slice.result.now c.tell_bytes.ensures c.in_ok-bytes.ensures.graph (same ∙ c.in_ok-bytes.ensures.text) in
-    no_fault c.in-Err-Fault.field-0 c.in-Err-Fault.field-0-0 c.as_slice-written.result.now (graph_of c.as_slice.result.now) read c.in-Err-Fault.field-0-is c.in-Err-Fault.ensures
+    let read = text_read c.as_slice-written.result.now c.args.views c.tell_bytes.ensures c.in_ok-bytes.ensures.graph (same ∙ c.in_ok-bytes.ensures.text) in
+    no_fault c.in-Err-Fault.field-0 c.in-Err-Fault.field-0-0 c.as_slice-written.result.now (graph_of c.args.views) read c.in-Err-Fault.field-0-is c.in-Err-Fault.ensures

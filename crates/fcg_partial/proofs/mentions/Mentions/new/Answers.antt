@@ -2,4 +2,4 @@ use Rattle.fcg_partial.proofs.MentionLaws.{none_yet}
 use Rattle.fcg_partial.proofs.mentions.Mentions.new.Goals as goal
 
 pub invariant_of-result : goal.invariant_of-result
-invariant_of-result c = none_yet c.new.result.items c.new-3.result.items c.new.ensures.items c.new-3.ensures.items
+invariant_of-result c = none_yet c.new.result.items c.new-2.result.items c.new.ensures.items c.new-2.ensures.items

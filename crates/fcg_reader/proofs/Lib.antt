@@ -8,3 +8,4 @@ pub mod ViewLemmas
 pub mod OverLemmas
 pub mod SiteLemmas
 pub mod HandleLemmas
+pub mod NamingLemmas

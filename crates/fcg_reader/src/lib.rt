@@ -13,10 +13,13 @@ mod fields;
 mod finish;
 mod firsts;
 mod handles;
+mod kept;
 mod members;
 mod methods;
 mod names;
+mod naming;
 mod number;
+mod rows;
 mod site;
 mod text;
 

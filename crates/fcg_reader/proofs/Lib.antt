@@ -1,5 +1,6 @@
 pub mod FirstLemmas
 pub mod NameLemmas
+pub mod RowLemmas
 pub mod AttributeLemmas
 pub mod CodeLemmas
 pub mod MethodLemmas

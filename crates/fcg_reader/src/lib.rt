@@ -23,4 +23,4 @@ mod rows;
 mod site;
 mod text;
 
-pub use class::read_class;
+pub use class::{read_class, read_numbered};

@@ -1,11 +1,11 @@
 -- Handle sites: how a loop reads them, and that they are the same wherever a call stands.
-use Rattle.std.proofs.Common.{◌≡◌, ℕ, ◌+◌, ◌<◌, ◌≤◌, Bool, true, false, ltb, List, [], ◌∷◌, ◌++◌, length, get_or, drop, refl, sym, ap, subst, ◌∙◌, ◌⊎◌, inl, inr, append_assoc, arith}
-use Rattle.std.specs.Prelude.{Option, Some, None, Result, Ok, Err, nat_lt}
+use Rattle.std.proofs.Common.{◌≡◌, ℕ, ◌+◌, ◌<◌, ◌≤◌, Bool, true, false, ltb, List, [], ◌∷◌, ◌++◌, length, map, get_or, drop, refl, sym, ap, subst, ◌∙◌, ◌⊎◌, inl, inr, append_assoc, arith}
+use Rattle.std.specs.Prelude.{Option, Some, None, Result, Ok, Err, nat_lt, if◌then◌else◌}
 use Rattle.std.specs.List.{slice_get}
 use Rattle.std.specs.Option.{option_to_list}
 use Rattle.std.proofs.lemmas.Option.{same_Some, slice_get_read, slice_get_past}
 use Rattle.std.proofs.Math.ListN.{drop_of_length-le}
-use Rattle.std.proofs.lemmas.List.{append-nil, drop_more, length-append}
+use Rattle.std.proofs.lemmas.List.{append-nil, drop_more, length-append, length-drop, map-append, nil_from_length}
 use Rattle.std.proofs.lemmas.Bool.{lt-ltb, le-ltb}
 use Rattle.std.proofs.lemmas.Bool.Decides.{nat_tests}
 use Rattle.fcg_grammar.specs.declared.error.ReadError.{ReadError}
@@ -29,9 +29,14 @@ use Rattle.fcg_classfile.specs.Breaks.Pool.{Entries, constant_of, reference_of, 
 use Rattle.fcg_classfile.specs.Breaks.Names.{type_of}
 use Rattle.fcg_classfile.specs.Breaks.Code.{member_of, target_of, site_of}
 use Rattle.fcg_classfile.specs.Breaks.Bootstrap.{formed_sites, constant_sites, index_sites, row_sites, call_sites}
-use Rattle.fcg_classfile.specs.Breaks.Members.{Unfinished, finished}
+use Rattle.fcg_classfile.specs.Breaks.Members.{Calls, finished}
 use Rattle.fcg_pool.specs.CodeValues.{handle_indexes_in, handle_indexes_of}
-use Rattle.fcg_reader.specs.Internal.Handles.{BootstrapsIn, bootstraps, moved, moved_at, all_moved_at, AreSitesOf, AreKept, IsKept, counted, all_joined, is_second, GivesMore}
+use Rattle.fcg_reader.specs.declared.rows.SiteRow.{SiteRow}
+use Rattle.fcg_reader.specs.declared.rows.MethodRow.{MethodRow}
+use Rattle.fcg_reader.specs.Internal.Kept.{IsKept}
+use Rattle.fcg_reader.specs.Internal.Rows.{site_in, sites_in, method_in}
+use Rattle.fcg_reader.specs.Internal.Calls.{unfinished_in}
+use Rattle.fcg_reader.specs.Internal.Handles.{BootstrapsIn, bootstraps, moved, moved_row, moved_at, all_moved_at, AreSitesOf, AreKept, counted, all_joined, is_second, merged_rows, GivesMore}
 
 -- ---- a loop over a list
 
@@ -85,26 +90,32 @@ module _ {X Y S : Type 0} (read : X → S → Result (Y × S) ClassFault) where
       by_first others (Err f) = refl
       by_first others (Ok first) = rw (others first.1) (front_first ys first.0 (carried read xs first.1))
 
--- the same where each of the list gives a list
-abbrev pub with_joined : List Site → Result (List (List Site) × ℕ) ClassFault → Result (List Site × ℕ) ClassFault
-with_joined front read = read >>= λ x. Ok (front ++ joined x.0, x.1)
+-- one more of a list of rows
+module _ {V W X Y S : Type 0} (f : V → X) (g : W → Y) (read : X → S → Result (Y × S) ClassFault) where
+  pub mapped_goes_on : (front : List W) (v : V) (vs : List V) (s : S) (w : W) (after : S) (total : Result (List Y × S) ClassFault) → read (f v) s ≡ Ok (g w, after)
+      → with_front (map g front) (carried read (map f (v ∷ vs)) s) ≡ total → with_front (map g (front ++ w ∷ [])) (carried read (map f vs) after) ≡ total
+  mapped_goes_on front v vs s w after total h so_far = rw (map-append g front (w ∷ [])) (carried_goes_on read (map g front) (f v) (map f vs) s (g w) after total h so_far)
 
-module _ {X : Type 0} (read : X → ℕ → Result (List Site × ℕ) ClassFault) where
-  regroup_joined : (front here : List Site) (others : Result (List (List Site) × ℕ) ClassFault) → with_joined front (others >>= λ o. Ok (here ∷ o.0, o.1)) ≡ with_joined (front ++ here) others
-  regroup_joined front here (Ok o) = ap (λ (ys : List Site). Ok (ys, o.1)) (simp append_assoc)
+-- the same where each of the list gives a list
+abbrev pub with_joined : Entries → List SiteRow → Result (List (List Site) × ℕ) ClassFault → Result (List Site × ℕ) ClassFault
+with_joined pool front read = read >>= λ x. Ok (sites_in pool front ++ joined x.0, x.1)
+
+module _ {X : Type 0} (pool : Entries) (read : X → ℕ → Result (List Site × ℕ) ClassFault) where
+  regroup_joined : (front here : List SiteRow) (others : Result (List (List Site) × ℕ) ClassFault) → with_joined pool front (others >>= λ o. Ok (sites_in pool here ∷ o.0, o.1)) ≡ with_joined pool (front ++ here) others
+  regroup_joined front here (Ok o) = ap (λ (ys : List Site). Ok (ys, o.1)) (rw (map-append (site_in pool) front here) (simp append_assoc))
   regroup_joined front here (Err f) = refl
 
-  pub joined_begins : (x : X) (xs : List X) (s after : ℕ) (here : List Site) → read x s ≡ Ok (here, after) → with_joined here (carried read xs after) ≡ all_joined (carried read (x ∷ xs) s)
+  pub joined_begins : (x : X) (xs : List X) (s after : ℕ) (here : List SiteRow) → read x s ≡ Ok (sites_in pool here, after) → with_joined pool here (carried read xs after) ≡ all_joined (carried read (x ∷ xs) s)
   joined_begins x xs s after here h = rw h (whole (carried read xs after))
     where
-      whole : (r : Result (List (List Site) × ℕ) ClassFault) → with_joined here r ≡ all_joined (r >>= λ o. Ok (here ∷ o.0, o.1))
+      whole : (r : Result (List (List Site) × ℕ) ClassFault) → with_joined pool here r ≡ all_joined (r >>= λ o. Ok (sites_in pool here ∷ o.0, o.1))
       whole (Ok o) = refl
       whole (Err f) = refl
 
-  pub joined_starts : (xs : List X) (s : ℕ) → with_joined [] (carried read xs s) ≡ all_joined (carried read xs s)
+  pub joined_starts : (xs : List X) (s : ℕ) → with_joined pool [] (carried read xs s) ≡ all_joined (carried read xs s)
   joined_starts xs s = whole (carried read xs s)
     where
-      whole : (r : Result (List (List Site) × ℕ) ClassFault) → with_joined [] r ≡ all_joined r
+      whole : (r : Result (List (List Site) × ℕ) ClassFault) → with_joined pool [] r ≡ all_joined r
       whole (Ok o) = refl
       whole (Err f) = refl
 
@@ -112,28 +123,28 @@ module _ {X : Type 0} (read : X → ℕ → Result (List Site × ℕ) ClassFault
   joined_fails_first errors.NoMemory x xs s h = tt
   joined_fails_first (errors.Fault f) x xs s h = rw h refl
 
-  pub joined_goes_on : (front : List Site) (i : ℕ) (xs : List X) (d : X) (s after : ℕ) (here : List Site) (total : Result (List Site × ℕ) ClassFault) → i < length xs → read (get_or xs i d) s ≡ Ok (here, after)
-      → with_joined front (carried read (drop i xs) s) ≡ total → with_joined (front ++ here) (carried read (drop (i + 1) xs) after) ≡ total
+  pub joined_goes_on : (front : List SiteRow) (i : ℕ) (xs : List X) (d : X) (s after : ℕ) (here : List SiteRow) (total : Result (List Site × ℕ) ClassFault) → i < length xs → read (get_or xs i d) s ≡ Ok (sites_in pool here, after)
+      → with_joined pool front (carried read (drop i xs) s) ≡ total → with_joined pool (front ++ here) (carried read (drop (i + 1) xs) after) ≡ total
   joined_goes_on front i xs d s after here total lt h so_far =
-      let one : with_joined front (carried read (drop i xs) s) ≡ with_joined (front ++ here) (carried read (drop (i + 1) xs) after) = rw (drop_more xs i d lt, h) (regroup_joined front here (carried read (drop (i + 1) xs) after)) in
+      let one : with_joined pool front (carried read (drop i xs) s) ≡ with_joined pool (front ++ here) (carried read (drop (i + 1) xs) after) = rw (drop_more xs i d lt, h) (regroup_joined front here (carried read (drop (i + 1) xs) after)) in
       sym one ∙ so_far
 
-  pub joined_fails : (e : ReadError ClassFault) (front : List Site) (i : ℕ) (xs : List X) (d : X) (s : ℕ) (total : Result (List Site × ℕ) ClassFault) → i < length xs → Fails e (read (get_or xs i d) s)
-      → with_joined front (carried read (drop i xs) s) ≡ total → Fails e total
+  pub joined_fails : (e : ReadError ClassFault) (front : List SiteRow) (i : ℕ) (xs : List X) (d : X) (s : ℕ) (total : Result (List Site × ℕ) ClassFault) → i < length xs → Fails e (read (get_or xs i d) s)
+      → with_joined pool front (carried read (drop i xs) s) ≡ total → Fails e total
   joined_fails errors.NoMemory front i xs d s total lt h so_far = tt
   joined_fails (errors.Fault f) front i xs d s total lt h so_far =
-      let one : with_joined front (carried read (drop i xs) s) ≡ Err f = rw (drop_more xs i d lt, h) refl in
+      let one : with_joined pool front (carried read (drop i xs) s) ≡ Err f = rw (drop_more xs i d lt, h) refl in
       sym so_far ∙ one
 
-  pub joined_done : (front : List Site) (i : ℕ) (xs : List X) (s : ℕ) (total : Result (List Site × ℕ) ClassFault) → length xs ≤ i → with_joined front (carried read (drop i xs) s) ≡ total → total ≡ Ok (front, s)
+  pub joined_done : (front : List SiteRow) (i : ℕ) (xs : List X) (s : ℕ) (total : Result (List Site × ℕ) ClassFault) → length xs ≤ i → with_joined pool front (carried read (drop i xs) s) ≡ total → total ≡ Ok (sites_in pool front, s)
   joined_done front i xs s total le so_far =
-      let one : with_joined front (carried read (drop i xs) s) ≡ Ok (front, s) = rw (drop_of_length-le xs le) (ap (λ (ys : List Site). Ok (ys, s)) (append-nil front)) in
+      let one : with_joined pool front (carried read (drop i xs) s) ≡ Ok (sites_in pool front, s) = rw (drop_of_length-le xs le) (ap (λ (ys : List Site). Ok (ys, s)) (append-nil (sites_in pool front))) in
       sym so_far ∙ one
 
-pub given_more : (count : ℕ) (old new here : List Site) (read : Result (List Site × ℕ) ClassFault) → new ≡ old ++ here → read ≡ Ok (here, count + length old + length here) → GivesMore (Ok tt) count old new read
-given_more count old new here read pushed is =
+pub given_more : (pool : Entries) (count : ℕ) (old new here : List SiteRow) (read : Result (List Site × ℕ) ClassFault) → new ≡ old ++ here → read ≡ Ok (sites_in pool here, count + length old + length here) → GivesMore pool (Ok tt) count old new read
+given_more pool count old new here read pushed is =
     let n : count + length old + length here ≡ count + length new = rw (pushed, length-append old here) (omega arith) in
-    (here, pushed, is ∙ ap (λ (k : ℕ). Ok (here, k)) n)
+    (here, pushed, is ∙ ap (λ (k : ℕ). Ok (sites_in pool here, k)) n)
 
 -- ---- the sites of an index
 
@@ -193,10 +204,9 @@ module _ (pool : Entries) (at pc index count : ℕ) where
       → index_sites pool at pc index count ≡ (site_of pool form at pc handle.1 count >>= λ s. Ok (s ∷ [], count + 1))
   index_formed found handle form is e form_is = index_handle found handle is e ∙ rw (← form_is) refl
 
-  pub index_broken : (found : Result (Option (ℕ × ℕ)) PoolRule) (handle : ℕ × ℕ) (form : SiteForm) (error : ReadError ClassFault) → found ≡ handle_indexes_of pool index → at_place at index found ≡ Ok (Some handle)
-      → Some form ≡ handle_form handle.0 → Fails error (site_of pool form at pc handle.1 count) → Fails error (index_sites pool at pc index count)
-  index_broken found handle form errors.NoMemory is e form_is broken = tt
-  index_broken found handle form (errors.Fault f) is e form_is broken = index_formed found handle form is e form_is ∙ rw broken refl
+  pub index_broken : (found : Result (Option (ℕ × ℕ)) PoolRule) (handle : ℕ × ℕ) (form : SiteForm) (f : ClassFault) → found ≡ handle_indexes_of pool index → at_place at index found ≡ Ok (Some handle)
+      → Some form ≡ handle_form handle.0 → site_of pool form at pc handle.1 count ≡ Err f → index_sites pool at pc index count ≡ Err f
+  index_broken found handle form f is e form_is broken = index_formed found handle form is e form_is ∙ rw broken refl
 
   pub index_read : (found : Result (Option (ℕ × ℕ)) PoolRule) (handle : ℕ × ℕ) (form : SiteForm) (s : Site) → found ≡ handle_indexes_of pool index → at_place at index found ≡ Ok (Some handle)
       → Some form ≡ handle_form handle.0 → site_of pool form at pc handle.1 count ≡ Ok s → index_sites pool at pc index count ≡ Ok (s ∷ [], count + 1)
@@ -334,27 +344,30 @@ module _ (at pc : ℕ) where
   unfolding moved_at
   moved_many s count many = rw (le-ltb count 1000000 many) refl
 
-  pub moved_past : (front : List Site) (i : ℕ) (found : List Site) (d : Site) (count : ℕ) (total : Result (List Site × ℕ) ClassFault) → i < length found → 1000000 ≤ count
-      → with_front front (all_moved_at at pc (drop i found) count) ≡ total → total ≡ Err (fault at 0 ManySites)
-  moved_past front i found d count total lt many so_far =
-      let one : with_front front (all_moved_at at pc (drop i found) count) ≡ Err (fault at 0 ManySites) = rw (drop_more found i d lt, moved_many (get_or found i d) count many) refl in
-      sym so_far ∙ one
+  pub moved_past : (pool : Entries) (front : List SiteRow) (i : ℕ) (found : List SiteRow) (count : ℕ) (total : Result (List Site × ℕ) ClassFault) → i < length found → 1000000 ≤ count
+      → with_front (sites_in pool front) (all_moved_at at pc (sites_in pool (drop i found)) count) ≡ total → total ≡ Err (fault at 0 ManySites)
+  moved_past pool front i found count total lt many so_far = sym so_far ∙ by (drop i found) (let left = length-drop i found in omega (arith, lt, left))
+    where
+      by : (rest : List SiteRow) → 0 < length rest → with_front (sites_in pool front) (all_moved_at at pc (sites_in pool rest) count) ≡ Err (fault at 0 ManySites)
+      by [] some = absurd (omega (arith, some))
+      by (s ∷ ss) some = rw (moved_many (site_in pool s) count many) refl
 
-  pub moved_done : (front : List Site) (i : ℕ) (found : List Site) (count : ℕ) (total : Result (List Site × ℕ) ClassFault) → length found ≤ i
-      → with_front front (all_moved_at at pc (drop i found) count) ≡ total → total ≡ Ok (front, count)
-  moved_done front i found count total le so_far = carried_done (moved_at at pc) front count total (rw (drop_of_length-le found le) at so_far)
+  pub moved_done : (pool : Entries) (front : List SiteRow) (i : ℕ) (found : List SiteRow) (count : ℕ) (total : Result (List Site × ℕ) ClassFault) → length found ≤ i
+      → with_front (sites_in pool front) (all_moved_at at pc (sites_in pool (drop i found)) count) ≡ total → total ≡ Ok (sites_in pool front, count)
+  moved_done pool front i found count total le so_far = carried_done (moved_at at pc) (sites_in pool front) count total (rw (drop_of_length-le found le) at so_far)
 
-  pub moved_on : (count : ℕ) (old items new front : List Site) (i : ℕ) (found : List Site) (d copy : Site) (total : Result (List Site × ℕ) ClassFault) → i < length found → d ≡ get_or found i d
-      → count + length items < 1000000 → copy ≡ moved pc d → new ≡ items ++ copy ∷ [] → items ≡ old ++ front
-      → with_front front (all_moved_at at pc (drop i found) (count + length items)) ≡ total
-      → ((more : List Site) × (new ≡ old ++ more) × (with_front more (all_moved_at at pc (drop (i + 1) found) (count + length new)) ≡ total)) × (count + length new ≤ 1000000)
-  moved_on count old items new front i found d copy total lt is few copied pushed kept so_far =
+  pub moved_on : (pool : Entries) (count : ℕ) (items new front : List SiteRow) (i : ℕ) (found : List SiteRow) (d copy : SiteRow) (total : Result (List Site × ℕ) ClassFault) → i < length found
+      → count + length items < 1000000 → copy ≡ moved_row pc (get_or found i d) → new ≡ items ++ copy ∷ []
+      → with_front (sites_in pool front) (all_moved_at at pc (sites_in pool (drop i found)) (count + length items)) ≡ total
+      → with_front (sites_in pool (front ++ copy ∷ [])) (all_moved_at at pc (sites_in pool (drop (i + 1) found)) (count + length new)) ≡ total
+  moved_on pool count items new front i found d copy total lt few copied pushed so_far =
       let n : count + length items + 1 ≡ count + length new = rw (pushed, length-append items (copy ∷ [])) (omega arith) in
-      let first : with_front front (all_moved_at at pc (get_or found i d ∷ drop (i + 1) found) (count + length items)) ≡ total = rw (drop_more found i d lt) at so_far in
-      let read : moved_at at pc (get_or found i d) (count + length items) ≡ Ok (copy, count + length new) = moved_few (get_or found i d) (count + length items) few ∙ rw (← is, ← copied, n) refl in
-      let next = carried_goes_on (moved_at at pc) front (get_or found i d) (drop (i + 1) found) (count + length items) copy (count + length new) total read first in
-      let all : new ≡ old ++ (front ++ copy ∷ []) = pushed ∙ rw kept (append_assoc old front (copy ∷ [])) in
-      ((front ++ copy ∷ [], all, next), (let m = sym n in omega (arith, m, few)))
+      let first : with_front (sites_in pool front) (all_moved_at at pc (sites_in pool (get_or found i d ∷ drop (i + 1) found)) (count + length items)) ≡ total = rw (drop_more found i d lt) at so_far in
+      let read : moved_at at pc (site_in pool (get_or found i d)) (count + length items) ≡ Ok (site_in pool copy, count + length new) = moved_few (site_in pool (get_or found i d)) (count + length items) few ∙ rw (copied, n) refl in
+      mapped_goes_on (site_in pool) (site_in pool) (moved_at at pc) front (get_or found i d) (drop (i + 1) found) (count + length items) copy (count + length new) total read first
+
+pub one_pushed : (old items new front : List SiteRow) (copy : SiteRow) → new ≡ items ++ copy ∷ [] → items ≡ old ++ front → new ≡ old ++ (front ++ copy ∷ [])
+one_pushed old items new front copy pushed kept = pushed ∙ rw kept (append_assoc old front (copy ∷ []))
 
 -- ---- the sites of a call
 
@@ -386,50 +399,71 @@ module _ (pool : Entries) (rows : List BootstrapMethod) (begin : ℕ) (call : Dy
   call_fails errors.NoMemory count broken = tt
   call_fails (errors.Fault f) count broken = call_by count ∙ broken
 
-  pub call_known : (sites : List Site) (result : Result (Unit {0}) (ReadError ClassFault)) (count : ℕ) (old new : List Site) → AreSitesOf pool b sites
-      → GivesMore result count old new (all_moved_at at call.pc sites (count + length old)) → GivesMore result count old new (call_sites pool rows begin call (count + length old))
+  pub call_known : (sites : List Site) (result : Result (Unit {0}) (ReadError ClassFault)) (count : ℕ) (old new : List SiteRow) → AreSitesOf pool b sites
+      → GivesMore pool result count old new (all_moved_at at call.pc sites (count + length old)) → GivesMore pool result count old new (call_sites pool rows begin call (count + length old))
   call_known sites result count old new known given =
-      subst (λ (read : Result (List Site × ℕ) ClassFault). GivesMore result count old new read) (sym (call_by (count + length old) ∙ known at call.pc (count + length old))) given
+      subst (λ (read : Result (List Site × ℕ) ClassFault). GivesMore pool result count old new read) (sym (call_by (count + length old) ∙ known at call.pc (count + length old))) given
 
 -- what is kept stays kept, with the sites of one row more
-pub kept_more : (pool : Entries) (rows : List BootstrapMethod) (old new : List (Option (List Site))) (number : ℕ) (sites : List Site) (b : BootstrapMethod) → slice_get rows number ≡ Some b → AreSitesOf pool b sites
+pub kept_more : (pool : Entries) (rows : List BootstrapMethod) (old new : List (Option (List SiteRow))) (number : ℕ) (sites : List SiteRow) (b : BootstrapMethod) → slice_get rows number ≡ Some b → AreSitesOf pool b (sites_in pool sites)
     → IsKept number sites old new → AreKept pool rows old → AreKept pool rows new
 kept_more pool rows old new number sites b row known more before i c here row_is kept_is = by (more i here kept_is)
   where
-    by : (get_or old i None ≡ Some here) ⊎ ((i ≡ number) × (here ≡ sites)) → AreSitesOf pool c here
+    by : (get_or old i None ≡ Some here) ⊎ ((i ≡ number) × (here ≡ sites)) → AreSitesOf pool c (sites_in pool here)
     by (inl was) = before i c here row_is was
     by (inr one) =
         let same : c ≡ b = same_Some _ _ (sym row_is ∙ ap (λ (n : ℕ). slice_get rows n) one.0 ∙ row) in
-        subst (λ (x : BootstrapMethod). AreSitesOf pool x here) (sym same) (subst (λ (xs : List Site). AreSitesOf pool b xs) (sym one.1) known)
+        subst (λ (x : BootstrapMethod). AreSitesOf pool x (sites_in pool here)) (sym same) (subst (λ (xs : List SiteRow). AreSitesOf pool b (sites_in pool xs)) (sym one.1) known)
 
 -- ---- two lists of sites as one
 
-pub merged_none : (ss : List Site) → merged ss [] ≡ ss
+merged_none : (ss : List Site) → merged ss [] ≡ ss
 merged_none [] = refl
 merged_none (s ∷ ss) = refl
 
+merged_rows_none : (ss : List SiteRow) → merged_rows ss [] ≡ ss
+merged_rows_none [] = refl
+merged_rows_none (s ∷ ss) = refl
+
 -- the first list's site is the next
-pub own_next : (ss hs rest : List Site) (r : Option Site) → is_second ss hs ≡ false → ss ≡ option_to_list r ++ rest → merged ss hs ≡ option_to_list r ++ merged rest hs
+pub own_next : (ss hs rest : List SiteRow) (r : Option SiteRow) → is_second ss hs ≡ false → ss ≡ option_to_list r ++ rest → merged_rows ss hs ≡ option_to_list r ++ merged_rows rest hs
 own_next ss hs rest None own parts = rw parts refl
 own_next ss hs rest (Some s) own parts = rw parts (by hs (rw parts at own))
   where
-    by : (hs : List Site) → is_second (s ∷ rest) hs ≡ false → merged (s ∷ rest) hs ≡ s ∷ merged rest hs
-    by [] own = rw (merged_none rest) refl
+    by : (hs : List SiteRow) → is_second (s ∷ rest) hs ≡ false → merged_rows (s ∷ rest) hs ≡ s ∷ merged_rows rest hs
+    by [] own = rw (merged_rows_none rest) refl
     by (h ∷ hs) own = rw own refl
+
+-- the pc's alone decide
+merged_in : (pool : Entries) (ss hs : List SiteRow) → sites_in pool (merged_rows ss hs) ≡ merged (sites_in pool ss) (sites_in pool hs)
+merged_in pool [] hs = refl
+merged_in pool (s ∷ ss) [] = refl
+merged_in pool (s ∷ ss) (h ∷ hs) = by (nat_lt h.pc s.pc) (merged_in pool (s ∷ ss) hs) (merged_in pool ss (h ∷ hs))
+  where
+    by : (second : Bool) → sites_in pool (merged_rows (s ∷ ss) hs) ≡ merged (sites_in pool (s ∷ ss)) (sites_in pool hs) → sites_in pool (merged_rows ss (h ∷ hs)) ≡ merged (sites_in pool ss) (sites_in pool (h ∷ hs))
+        → sites_in pool (if second then h ∷ merged_rows (s ∷ ss) hs else s ∷ merged_rows ss (h ∷ hs)) ≡ (if second then site_in pool h ∷ merged (sites_in pool (s ∷ ss)) (sites_in pool hs) else site_in pool s ∷ merged (sites_in pool ss) (sites_in pool (h ∷ hs)))
+    by true handle own = ap (λ (rest : List Site). site_in pool h ∷ rest) handle
+    by false handle own = ap (λ (rest : List Site). site_in pool s ∷ rest) own
 
 -- ---- a method whole
 
--- a method without handle sites stays as it is
-pub finished_none : (pool : Entries) (rows : List BootstrapMethod) (m : Unfinished) (count : ℕ) (sites : List Site)
-    → all_joined (carried (call_sites pool rows m.1.begin) m.1.calls count) ≡ Ok (counted count sites) → length sites ≡ 0 → finished pool rows m count ≡ Ok (m.0, count)
-unfolding finished
-finished_none pool rows m count sites read none =
-    let a = bind_ok (carried (call_sites pool rows m.1.begin) m.1.calls count) _ (counted count sites) read in
-    let last = ok_is _ (counted count sites) a.2 in
-    let empty : joined a.0.0 ≡ [] = ap (λ (x : List Site × ℕ). x.0) last ∙ no_sites sites none in
-    let after : a.0.1 ≡ count = ap (λ (x : List Site × ℕ). x.1) last ∙ omega (arith, none) in
-    rw (a.1, empty, after, merged_none m.0.sites) refl
-  where
-    no_sites : (xs : List Site) → length xs ≡ 0 → xs ≡ []
-    no_sites [] e = refl
-    no_sites (x ∷ xs) e = absurd (omega arith)
+module _ (pool : Entries) (rows : List BootstrapMethod) (m : MethodRow × Calls) (count : ℕ) (sites : List SiteRow) where
+  -- a method without handle sites stays as it is
+  pub finished_none : all_joined (carried (call_sites pool rows m.1.begin) m.1.calls count) ≡ Ok (counted pool count sites) → length sites ≡ 0 → finished pool rows (unfinished_in pool m) count ≡ Ok (method_in pool m.0, count)
+  unfolding finished
+  finished_none read none =
+      let a = bind_ok (carried (call_sites pool rows m.1.begin) m.1.calls count) _ (counted pool count sites) read in
+      let last = ok_is _ (counted pool count sites) a.2 in
+      let empty : joined a.0.0 ≡ [] = ap (λ (x : List Site × ℕ). x.0) last ∙ ap (sites_in pool) (nil_from_length sites none) in
+      let after : a.0.1 ≡ count = ap (λ (x : List Site × ℕ). x.1) last ∙ omega (arith, none) in
+      rw (a.1, empty, after, merged_none (sites_in pool m.0.sites)) refl
+
+  pub finished_some : (merged : List SiteRow) → all_joined (carried (call_sites pool rows m.1.begin) m.1.calls count) ≡ Ok (counted pool count sites) → merged ≡ merged_rows m.0.sites sites
+      → finished pool rows (unfinished_in pool m) count ≡ Ok (method_in pool (record { name = m.0.name; desc = m.0.desc; flags = m.0.flags; sites = merged }), count + length sites)
+  unfolding finished
+  finished_some merged read is =
+      let a = bind_ok (carried (call_sites pool rows m.1.begin) m.1.calls count) _ (counted pool count sites) read in
+      let last = ok_is _ (counted pool count sites) a.2 in
+      let handles : joined a.0.0 ≡ sites_in pool sites = ap (λ (x : List Site × ℕ). x.0) last in
+      let after : a.0.1 ≡ count + length sites = ap (λ (x : List Site × ℕ). x.1) last in
+      rw (a.1, handles, after, is, merged_in pool m.0.sites sites) refl

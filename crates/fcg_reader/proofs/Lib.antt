@@ -1,5 +1,6 @@
 pub mod FirstLemmas
 pub mod NameLemmas
+pub mod RowLemmas
 pub mod AttributeLemmas
 pub mod CodeLemmas
 pub mod MethodLemmas
@@ -8,3 +9,4 @@ pub mod ViewLemmas
 pub mod OverLemmas
 pub mod SiteLemmas
 pub mod HandleLemmas
+pub mod NamingLemmas

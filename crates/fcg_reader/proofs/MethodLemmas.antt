@@ -27,7 +27,9 @@ use Rattle.fcg_classfile.specs.Breaks.Fault.{fault}
 use Rattle.fcg_classfile.specs.Breaks.Pool.{Entries}
 use Rattle.fcg_classfile.specs.Breaks.Attributes.{AttributesBefore, ones_at}
 use Rattle.fcg_classfile.specs.Breaks.Code.{code_at}
-use Rattle.fcg_classfile.specs.Breaks.Members.{Declared, Unfinished, MethodsBefore, unfinished, declared_at, method_at}
+use Rattle.fcg_reader.specs.declared.rows.MethodRow.{MethodRow}
+use Rattle.fcg_reader.specs.Internal.Calls.{all_unfinished_in}
+use Rattle.fcg_classfile.specs.Breaks.Members.{Calls, Declared, Unfinished, MethodsBefore, unfinished, declared_at, method_at}
 use Rattle.fcg_reader.specs.Internal.Members.{methods_before, GivesNext}
 use Rattle.fcg_classfile.proofs.WordLaws.{same_text}
 use Rattle.fcg_reader.proofs.FirstLemmas.{same_first, one_text, at_bool, both_equal}
@@ -148,6 +150,11 @@ IsTable-grown methods was pool old new before firsts signatures sites asked grow
   few = table.few;
 }
 
+-- the same where the methods are rows
+pub IsTable-rows : (methods : List (MethodRow × Calls)) (was pool : Entries) (old new : Known) (before firsts : List ℕ) (signatures : BTreeSet Signature) (sites : ℕ) → pool ≡ was → AreAsked pool new firsts → Grows old new → IsTable (all_unfinished_in was methods) was old before signatures sites → IsTable (all_unfinished_in pool methods) pool new firsts signatures sites
+IsTable-rows methods was pool old new before firsts signatures sites same asked grows table =
+    subst (λ (p : Entries). IsTable (all_unfinished_in p methods) pool new firsts signatures sites) (sym same) (IsTable-grown (all_unfinished_in was methods) was pool old new before firsts signatures sites asked grows table)
+
 -- The set is as it was.
 pub IsTable-same : (methods : List Unfinished) (pool : Entries) (known : Known) (firsts : List ℕ) (old new : BTreeSet Signature) (sites : ℕ) → ((s : Signature) → tree.contains signature_cmp new s ≡ tree.contains signature_cmp old s) → IsTable methods pool known firsts old sites → IsTable methods pool known firsts new sites
 IsTable-same methods pool known firsts old new sites same table = record {
@@ -167,8 +174,8 @@ IsTable-same methods pool known firsts old new sites same table = record {
 pub site_count-push : (sites n : ℕ) (methods : List Method) (m : Method) → sites ≡ site_count methods → n ≡ length m.sites → sites + n ≡ site_count (methods ++ m ∷ [])
 site_count-push sites n methods m counted size = rw (counted, size) (sym (sum_by_push (λ (x : Method). length x.sites) methods m))
 
-pub site_count-few : (sites n : ℕ) (methods before : List Method) (m : Method) → sites ≡ site_count methods → site_count methods ≡ site_count before → n ≡ length m.sites → site_count before + length m.sites ≤ 1000000 → sites + n ≤ 1000000
-site_count-few sites n methods before m counted same size few = rw (counted, same, size) few
+pub site_count-few : (sites n : ℕ) (methods before : List Method) → sites ≡ site_count methods → site_count methods ≡ site_count before → site_count before + n ≤ 1000000 → sites + n ≤ 1000000
+site_count-few sites n methods before counted same few = rw (counted, same) few
 
 -- ---- methods without their calls
 

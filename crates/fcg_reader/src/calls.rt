@@ -2,8 +2,8 @@
 ghost use Rattle.std.specs.Prelude.{◌≡◌, []};
 ghost use Rattle.fcg_reader.specs.Internal.Calls.{ArePlaced};
 
+use crate::rows::MethodRow;
 use fcg_classfile::DynamicCall;
-use fcg_views::Method;
 use std::alloc::Global;
 use std::marker::Model;
 
@@ -15,7 +15,7 @@ pub struct CodeCalls {
 }
 
 /// A method with the sites of its instructions, and its calls of bootstrap methods.
-pub type Unfinished = (Method, CodeCalls);
+pub type Unfinished = (MethodRow, CodeCalls);
 
 impl Model for CodeCalls {
     ghost use Rattle.fcg_classfile.specs.Breaks.Members.{Calls};

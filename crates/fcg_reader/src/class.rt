@@ -1,5 +1,6 @@
 //! Class files.
-ghost use Rattle.std.specs.Prelude.{◌≡◌, ◌≤◌, ◌+◌, ℕ, List, length, codes, Option, None, OnOk, IfOk, IfSome};
+ghost use Rattle.std.specs.Prelude.{◌≡◌, ◌≤◌, ◌+◌, ℕ, List, length, map, codes, Option, None, OnOk, IfOk, IfSome};
+ghost use Rattle.std.specs.Option.{option_map};
 ghost use Rattle.fcg_grammar.specs.Reading.{seen, Gives};
 ghost use Rattle.fcg_grammar.specs.Rows.{rows, ended};
 ghost use Rattle.fcg_views.specs.Valid.{IsValid};
@@ -11,6 +12,8 @@ ghost use Rattle.fcg_classfile.specs.Reads.{Reads};
 ghost use Rattle.fcg_classfile.specs.Breaks.Fault.{in_pool};
 ghost use Rattle.fcg_classfile.specs.Breaks.Pool.{pool_at};
 ghost use Rattle.fcg_classfile.specs.Breaks.Class.{header_kept, type_at, super_at, interface_at, interfaces_at, rows_or_none, members_at, body_at, shown, class_of};
+ghost use Rattle.fcg_reader.specs.Internal.Rows.{text_in, field_in, method_in, view_in};
+ghost use Rattle.fcg_reader.specs.Internal.Calls.{all_unfinished_in};
 ghost use Rattle.fcg_reader.specs.Internal.Class.{rows_said, rows_seen, rows_before, rows_ended, GivesRows};
 
 use crate::attributes::pass_named;
@@ -19,12 +22,14 @@ use crate::fields::read_fields;
 use crate::finish::finish_methods;
 use crate::members::read_methods;
 use crate::names::ClassNames;
+use crate::naming::name_view;
 use crate::number::{read_u2, read_u4};
+use crate::rows::{FieldRow, MethodRow, ViewRows};
 use crate::text::find_type;
 use fcg_classfile::{ClassFault, ClassRule, fault_at};
 use fcg_grammar::ReadError;
 use fcg_pool::Pool;
-use fcg_views::{Fields, Methods, Name, Names, View};
+use fcg_views::{NoMemory, NumberedView, View};
 use std::alloc::Global;
 
 // The magic number and the version.
@@ -62,63 +67,56 @@ fn read_pool(
 }
 
 // The name of the type whose index stands at a place.
-fn read_type(names: &mut ClassNames<'_>, at: usize) -> Result<Name, ReadError<ClassFault>>
-    requires { at ≤ length names.old.bytes }
-    ensures value { Gives (λ name. name) result (type_at names.old at) }
-    ensures inside { OnOk result (at + 2 ≤ length names.old.bytes) }
-    ensures same { names.new ≡ names.old }
+fn read_type(pool: &Pool<'_>, at: usize) -> Result<u16, ClassFault>
+    requires { at ≤ length pool.now.bytes }
+    ensures value { seen (text_in pool.now) result ≡ type_at pool.now at }
+    ensures inside { OnOk result (at + 2 ≤ length pool.now.bytes) }
 {
-    let text = find_type(names.pool(), at)?;
-    Ok(names.name(&text)?)
+    let text = find_type(pool, at)?;
+    Ok(text.index)
 }
 
 // The name of the superclass, where there is one.
 #[tactic(auto, unfolding(fcg_classfile::specs::Breaks::Class::super_at))]
-fn read_super(names: &mut ClassNames<'_>, at: usize) -> Result<Option<Name>, ReadError<ClassFault>>
-    requires { at ≤ length names.old.bytes }
-    ensures value { Gives (λ name. name) result (super_at names.old at) }
-    ensures inside { OnOk result (at + 2 ≤ length names.old.bytes) }
-    ensures same { names.new ≡ names.old }
+fn read_super(pool: &Pool<'_>, at: usize) -> Result<Option<u16>, ClassFault>
+    requires { at ≤ length pool.now.bytes }
+    ensures value { seen (option_map (text_in pool.now)) result ≡ super_at pool.now at }
+    ensures inside { OnOk result (at + 2 ≤ length pool.now.bytes) }
 {
-    let index = read_u2(names.pool().bytes(), at, 0)?;
+    let index = read_u2(pool.bytes(), at, 0)?;
     if index == 0 {
         return Ok(None);
     }
-    Ok(Some(read_type(names, at)?))
+    Ok(Some(read_type(pool, at)?))
 }
 
 #[tactic(auto, unfolding(fcg_classfile::specs::Breaks::Class::interface_at))]
-fn read_interface(
-    names: &mut ClassNames<'_>,
-    at: usize,
-) -> Result<(Name, usize), ReadError<ClassFault>>
-    requires { at ≤ length names.old.bytes }
-    ensures value { (k : ℕ) → Gives (λ x. (x.0, x.1)) result (interface_at names.old k at) }
-    ensures inside { IfOk result (λ x. x.1 ≤ length names.old.bytes) }
-    ensures same { names.new ≡ names.old }
+fn read_interface(pool: &Pool<'_>, at: usize) -> Result<(u16, usize), ClassFault>
+    requires { at ≤ length pool.now.bytes }
+    ensures value { (k : ℕ) → seen (λ x. (text_in pool.now x.0, x.1)) result ≡ interface_at pool.now k at }
+    ensures inside { IfOk result (λ x. x.1 ≤ length pool.now.bytes) }
 {
-    let bytes = names.pool().bytes();
+    let bytes = pool.bytes();
     prove!(at <= bytes.len());
-    let name = read_type(names, at)?;
+    let name = read_type(pool, at)?;
     Ok((name, at + 2))
 }
 
 // So many interfaces, and the place after them.
 fn read_interface_rows(
     alloc: Global,
-    names: &mut ClassNames<'_>,
+    pool: &Pool<'_>,
     count: u16,
     at: usize,
-) -> Result<(Vec<Name>, usize), ReadError<ClassFault>>
-    requires { at ≤ length names.old.bytes }
-    ensures value { Gives (λ x. (x.0.items, x.1)) result (rows (interface_at names.old) count 0 at) }
-    ensures inside { IfOk result (λ x. x.1 ≤ length names.old.bytes) }
-    ensures same { names.new ≡ names.old }
+) -> Result<(Vec<u16>, usize), ReadError<ClassFault>>
+    requires { at ≤ length pool.now.bytes }
+    ensures value { Gives (λ x. (map (text_in pool.now) x.0.items, x.1)) result (rows (interface_at pool.now) count 0 at) }
+    ensures inside { IfOk result (λ x. x.1 ≤ length pool.now.bytes) }
 {
     let mut interfaces = Vec::with_capacity(alloc, usize::from(count))?;
     let mut place = at;
     for _ in 0..count {
-        let (name, after) = read_interface(names, place)?;
+        let (name, after) = read_interface(pool, place)?;
         interfaces.push(name)?;
         place = after;
     }
@@ -129,17 +127,15 @@ fn read_interface_rows(
 #[tactic(auto, unfolding(fcg_classfile::specs::Breaks::Class::interfaces_at))]
 fn read_interfaces(
     alloc: Global,
-    names: &mut ClassNames<'_>,
+    pool: &Pool<'_>,
     at: usize,
-) -> Result<(Names, usize), ReadError<ClassFault>>
-    requires { at ≤ length names.old.bytes }
-    ensures value { Gives (λ x. (x.0, x.1)) result (interfaces_at names.old at) }
-    ensures inside { IfOk result (λ x. x.1 ≤ length names.old.bytes) }
-    ensures same { names.new ≡ names.old }
+) -> Result<(Vec<u16>, usize), ReadError<ClassFault>>
+    requires { at ≤ length pool.now.bytes }
+    ensures value { Gives (λ x. (map (text_in pool.now) x.0.items, x.1)) result (interfaces_at pool.now at) }
+    ensures inside { IfOk result (λ x. x.1 ≤ length pool.now.bytes) }
 {
-    let count = read_u2(names.pool().bytes(), at, 0)?;
-    let (interfaces, after) = read_interface_rows(alloc, names, count, at + 2)?;
-    Ok((Names::from(interfaces), after))
+    let count = read_u2(pool.bytes(), at, 0)?;
+    read_interface_rows(alloc, pool, count, at + 2)
 }
 
 // The place after the attribute of a class that stands at a place, and the bootstrap methods so far. A second attribute
@@ -221,9 +217,9 @@ fn read_members(
     alloc: Global,
     names: &mut ClassNames<'_>,
     at: usize,
-) -> Result<(Fields, Methods), ReadError<ClassFault>>
+) -> Result<(Vec<FieldRow>, Vec<MethodRow>), ReadError<ClassFault>>
     requires { at ≤ length names.old.bytes }
-    ensures { Gives (λ x. (x.0, x.1)) result (members_at names.old at) }
+    ensures { Gives (λ x. (map (field_in names.old) x.0.items, map (method_in names.old) x.1.items)) result (members_at names.old at) }
 {
     let pool = names.pool();
     let (fields, methods_at) = read_fields(alloc, names, at)?;
@@ -242,18 +238,19 @@ fn read_body(
     alloc: Global,
     names: &mut ClassNames<'_>,
     at: usize,
-) -> Result<View, ReadError<ClassFault>>
+) -> Result<ViewRows, ReadError<ClassFault>>
     requires { at ≤ length names.old.bytes }
-    ensures { Gives (λ view. view) result (body_at names.old at) }
+    ensures { Gives (view_in names.old) result (body_at names.old at) }
 {
-    let bytes = names.pool().bytes();
+    let pool = names.pool();
+    let bytes = pool.bytes();
     prove!(at <= bytes.len());
     let flags = read_u2(bytes, at, 0)?;
-    let name = read_type(names, at + 2)?;
-    let superclass = read_super(names, at + 4)?;
-    let (interfaces, after) = read_interfaces(alloc, names, at + 6)?;
+    let name = read_type(pool, at + 2)?;
+    let superclass = read_super(pool, at + 4)?;
+    let (interfaces, after) = read_interfaces(alloc, pool, at + 6)?;
     let (fields, methods) = read_members(alloc, names, after)?;
-    Ok(View {
+    Ok(ViewRows {
         name,
         flags,
         superclass,
@@ -263,29 +260,34 @@ fn read_body(
     })
 }
 
-// A module has no view.
-fn shown(view: View) -> Option<View>
-    ensures { result ≡ shown view }
+// The view of rows. A module has none.
+fn show(
+    alloc: Global,
+    pool: &Pool<'_>,
+    rows: &ViewRows,
+) -> Result<Option<NumberedView>, NoMemory>
+    ensures { IfOk result (λ view. view ≡ shown (view_in pool.now rows.now)) }
 {
-    if view.flags < 0x8000 {
-        Some(view)
+    if rows.flags < 0x8000 {
+        Ok(Some(name_view(alloc, pool, rows)?))
     } else {
-        None
+        Ok(None)
     }
 }
 
 #[tactic(auto, unfolding(fcg_classfile::specs::Breaks::Class::class_of))]
-fn read_whole(alloc: Global, bytes: &[u8]) -> Result<Option<View>, ReadError<ClassFault>>
+fn read_whole(alloc: Global, bytes: &[u8]) -> Result<Option<NumberedView>, ReadError<ClassFault>>
     ensures { Gives (λ view. view) result (class_of bytes.now) }
 {
     read_header(bytes)?;
     let (pool, after) = read_pool(alloc, bytes, 8)?;
     let mut names = ClassNames::new(alloc, &pool)?;
-    let view = read_body(alloc, &mut names, after)?;
-    Ok(shown(view))
+    let rows = read_body(alloc, &mut names, after)?;
+    Ok(show(alloc, &pool, &rows)?)
 }
 
-/// The view of a class file (JVMS 4.1), or `None` for a module, which has the flag 8000h.
+/// The view of a class file (JVMS 4.1) with its names by the numbers of their texts, or `None` for a module, which has the
+/// flag 8000h.
 ///
 /// The error is [`ReadError::Fault`] where the bytes are no class file: the first rule that they break, as
 /// [`ClassRule`](fcg_classfile::ClassRule) has them, the place of the item that breaks it, and the index of the pool that
@@ -294,9 +296,13 @@ fn read_whole(alloc: Global, bytes: &[u8]) -> Result<Option<View>, ReadError<Cla
 /// is [`ReadError::NoMemory`] where memory ran out.
 ///
 /// It makes one pass over the bytes, and for each method some comparisons more, about the logarithm of the number of
-/// methods. It takes memory for the pool's entries, for the bootstrap methods and the calls of them, and for the view,
-/// whose names share one copy of the bytes.
-pub fn read_class(alloc: Global, bytes: &[u8]) -> Result<Option<View>, ReadError<ClassFault>>
+/// methods. Each name takes constant time, however long it is. It takes memory for the pool's entries, for the bootstrap
+/// methods and the calls of them, for 12 bytes of each site, and for the view, whose names share one copy of the bytes and
+/// have a number of two bytes each.
+pub fn read_numbered(
+    alloc: Global,
+    bytes: &[u8],
+) -> Result<Option<NumberedView>, ReadError<ClassFault>>
     // What is read is a class file with that view.
     ensures found { IfOk result (Reads bytes.now) }
     // A class file is read with its view, unless memory runs out.
@@ -307,4 +313,21 @@ pub fn read_class(alloc: Global, bytes: &[u8]) -> Result<Option<View>, ReadError
     ensures valid { IfOk result (λ view. IfSome view IsValid) }
 {
     read_whole(alloc, bytes)
+}
+
+/// The view of a class file, as [`read_numbered`] reads it, without the numbers of its names.
+pub fn read_class(alloc: Global, bytes: &[u8]) -> Result<Option<View>, ReadError<ClassFault>>
+    // What is read is a class file with that view.
+    ensures found { IfOk result (Reads bytes.now) }
+    // A class file is read with its view, unless memory runs out.
+    ensures only { (view : Option View) → Reads bytes.now view → Gives (λ v. v) result (Ok view) }
+    // Which fault it is.
+    ensures exact { Gives (λ view. view) result (class_of bytes.now) }
+    // The view is one that a class file could have.
+    ensures valid { IfOk result (λ view. IfSome view IsValid) }
+{
+    match read_numbered(alloc, bytes)? {
+        Some(numbered) => Ok(Some(numbered.into_view())),
+        None => Ok(None),
+    }
 }

@@ -6,34 +6,33 @@ ghost use Rattle.fcg_classfile.specs.Breaks.Fault.{at_opcode};
 ghost use Rattle.fcg_classfile.specs.Breaks.Instructions.{next_at, operand_at};
 ghost use Rattle.fcg_classfile.specs.Breaks.Attributes.{over};
 ghost use Rattle.fcg_classfile.specs.Breaks.Code.{found_of, handler_at, handlers_at, code_at};
-ghost use Rattle.fcg_reader.specs.Internal.Calls.{ArePlaced};
+ghost use Rattle.fcg_reader.specs.Internal.Calls.{ArePlaced, found_in};
 
 use crate::attributes::pass_attributes;
 use crate::calls::CodeCalls;
 use crate::names::ClassNames;
 use crate::number::{read_part, read_u2, read_u4};
+use crate::rows::{SiteRow, SiteRows};
 use crate::site::{CodeSpan, push_site_or_call};
 use fcg_classfile::{ClassFault, ClassRule, DynamicCall, at_opcode, fault_at};
 use fcg_grammar::ReadError;
 use fcg_pool::{Instruction, next_instruction, plain_len};
-use fcg_views::{Site, Sites};
 use std::alloc::Global;
 use std::marker::Model;
 
 /// What a method's attribute Code says: the sites of its instructions, and its calls of bootstrap methods.
 #[derive(Drop)]
 pub struct MethodCode {
-    sites: Sites,
+    sites: SiteRows,
     calls: CodeCalls,
 }
 
 // It is seen with the place of the attribute, 14 bytes before the code.
 impl Model for MethodCode {
     ghost use Rattle.std.specs.Prelude.{ℕ, ◌≤◌};
-    ghost use Rattle.fcg_classfile.specs.Sites.{Found};
-    ghost use Rattle.fcg_reader.specs.Internal.Calls.{code_in};
+    ghost use Rattle.fcg_reader.specs.Internal.Calls.{FoundRows, code_in};
 
-    ghost Value = { ℕ × Found };
+    ghost Value = { ℕ × FoundRows };
 
     ghost view = { λ c. code_in c.sites c.calls };
 
@@ -42,7 +41,7 @@ impl Model for MethodCode {
 
 impl MethodCode {
     /// The sites, and the calls.
-    pub fn into_parts(self) -> (Sites, CodeCalls)
+    pub fn into_parts(self) -> (SiteRows, CodeCalls)
         ensures { result ≡ (self.1.sites, record { begin = self.0 + 14; calls = self.1.calls }) }
     {
         (self.sites, self.calls)
@@ -107,11 +106,11 @@ fn read_found(
     names: &mut ClassNames<'_>,
     code: CodeSpan<'_>,
     count: usize,
-) -> Result<(Vec<Site>, Vec<DynamicCall>), ReadError<ClassFault>>
+) -> Result<(Vec<SiteRow>, Vec<DynamicCall>), ReadError<ClassFault>>
     requires short { length code.bytes.now ≤ 65535 }
     requires place { code.begin + length code.bytes.now < 2 ^ 64 }
     requires few { count ≤ 1000000 }
-    ensures value { Gives (λ x. record { sites = x.0.items; calls = x.1.items }) result (found_of names.old code.entry.begin code.entry.bytes.now count) }
+    ensures value { Gives (λ x. found_in names.old (record { sites = x.0.items; calls = x.1.items })) result (found_of names.old code.entry.begin code.entry.bytes.now count) }
     ensures few { IfOk result (λ x. count + length x.0.items ≤ 1000000) }
     ensures placed { IfOk result (λ x. ArePlaced code.entry.begin x.1.items) }
     ensures same { names.new ≡ names.old }
@@ -164,7 +163,7 @@ pub fn read_code(
 ) -> Result<MethodCode, ReadError<ClassFault>>
     requires place { at + 6 ≤ length bytes.now }
     requires few { count ≤ 1000000 }
-    ensures value { Gives (λ code. code.1) result (code_at count (over bytes.now names.old) (at + 6)) }
+    ensures value { Gives (λ code. found_in names.old code.1) result (code_at count (over bytes.now names.old) (at + 6)) }
     ensures place { IfOk result (λ code. code.0 ≡ at) }
     ensures few { IfOk result (λ code. count + length code.1.sites ≤ 1000000) }
     ensures same { names.new ≡ names.old }
@@ -187,7 +186,7 @@ pub fn read_code(
         return Err(ReadError::Fault(fault_at(end, 0, ClassRule::Trailing)));
     }
     Ok(MethodCode {
-        sites: Sites::from(sites),
+        sites: SiteRows::from(sites),
         calls: CodeCalls::new(content + 8, calls),
     })
 }

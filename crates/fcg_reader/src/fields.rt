@@ -1,42 +1,37 @@
 //! Fields (JVMS 4.5).
-ghost use Rattle.std.specs.Prelude.{◌≡◌, ◌≤◌, ℕ, length, IfOk};
-ghost use Rattle.fcg_grammar.specs.Reading.{Gives};
+ghost use Rattle.std.specs.Prelude.{◌≡◌, ◌≤◌, ℕ, length, map, IfOk};
+ghost use Rattle.fcg_grammar.specs.Reading.{seen, Gives};
 ghost use Rattle.fcg_grammar.specs.Rows.{rows};
 ghost use Rattle.fcg_classfile.specs.Breaks.Members.{field_of, field_at, fields_at};
+ghost use Rattle.fcg_classfile.specs.Breaks.Pool.{Entries};
+ghost use Rattle.fcg_reader.specs.Internal.Rows.{field_in};
 ghost use Rattle.fcg_reader.specs.Internal.Members.{declared_of, AreTextsOf};
 
 use crate::attributes::pass_attributes;
 use crate::declared::{Declared, find_declared};
 use crate::names::{ClassNames, DescKind};
 use crate::number::read_u2;
+use crate::rows::FieldRow;
 use fcg_classfile::ClassFault;
 use fcg_grammar::ReadError;
-use fcg_views::{Field, Fields, NoMemory};
 use std::alloc::Global;
 
 // The field that a row declares.
-fn make_field(names: &mut ClassNames<'_>, declared: &Declared<'_>) -> Result<Field, NoMemory>
-    requires { AreTextsOf names.old declared.now }
-    ensures ok { IfOk result (λ field. field ≡ field_of (declared_of declared.now)) }
-    ensures same { names.new ≡ names.old }
+fn row_of(declared: &Declared<'_>) -> FieldRow
+    ensures { (pool : Entries) → AreTextsOf pool declared.now → field_in pool result ≡ field_of (declared_of declared.now) }
 {
-    let name = names.name(&declared.name)?;
-    let desc = names.name(&declared.desc)?;
-    Ok(Field {
-        name,
-        desc,
+    FieldRow {
+        name: declared.name.index,
+        desc: declared.desc.index,
         flags: declared.flags,
-    })
+    }
 }
 
 // The field that stands at a place, and the place after it.
 #[tactic(auto, unfolding(fcg_classfile::specs::Breaks::Members::field_at))]
-fn read_field(
-    names: &mut ClassNames<'_>,
-    at: usize,
-) -> Result<(Field, usize), ReadError<ClassFault>>
+fn read_field(names: &mut ClassNames<'_>, at: usize) -> Result<(FieldRow, usize), ClassFault>
     requires { at ≤ length names.old.bytes }
-    ensures value { (k : ℕ) → Gives (λ x. (x.0, x.1)) result (field_at names.old k at) }
+    ensures value { (k : ℕ) → seen (λ x. (field_in names.old x.0, x.1)) result ≡ field_at names.old k at }
     ensures inside { IfOk result (λ x. x.1 ≤ length names.old.bytes) }
     ensures same { names.new ≡ names.old }
 {
@@ -45,8 +40,7 @@ fn read_field(
     prove!(at <= bytes.len());
     let declared = find_declared(names, DescKind::Field, at)?;
     let after = pass_attributes(pool, bytes, at + 6)?;
-    let field = make_field(names, &declared)?;
-    Ok((field, after))
+    Ok((row_of(&declared), after))
 }
 
 // So many fields, and the place after them.
@@ -55,9 +49,9 @@ fn read_field_rows(
     names: &mut ClassNames<'_>,
     count: u16,
     at: usize,
-) -> Result<(Vec<Field>, usize), ReadError<ClassFault>>
+) -> Result<(Vec<FieldRow>, usize), ReadError<ClassFault>>
     requires { at ≤ length names.old.bytes }
-    ensures value { Gives (λ x. (x.0.items, x.1)) result (rows (field_at names.old) count 0 at) }
+    ensures value { Gives (λ x. (map (field_in names.old) x.0.items, x.1)) result (rows (field_at names.old) count 0 at) }
     ensures inside { IfOk result (λ x. x.1 ≤ length names.old.bytes) }
     ensures same { names.new ≡ names.old }
 {
@@ -84,13 +78,12 @@ pub fn read_fields(
     alloc: Global,
     names: &mut ClassNames<'_>,
     at: usize,
-) -> Result<(Fields, usize), ReadError<ClassFault>>
+) -> Result<(Vec<FieldRow>, usize), ReadError<ClassFault>>
     requires { at ≤ length names.old.bytes }
-    ensures value { Gives (λ x. (x.0, x.1)) result (fields_at names.old at) }
+    ensures value { Gives (λ x. (map (field_in names.old) x.0.items, x.1)) result (fields_at names.old at) }
     ensures inside { IfOk result (λ x. x.1 ≤ length names.old.bytes) }
     ensures same { names.new ≡ names.old }
 {
     let count = read_u2(names.pool().bytes(), at, 0)?;
-    let (fields, after) = read_field_rows(alloc, names, count, at + 2)?;
-    Ok((Fields::from(fields), after))
+    read_field_rows(alloc, names, count, at + 2)
 }

@@ -1,26 +1,27 @@
 //! Methods with the handle sites of their calls.
-ghost use Rattle.std.specs.Prelude.{◌≡◌, ◌≤◌, ◌+◌, ◌++◌, [], length, sum_by, IfOk, IfNone};
+ghost use Rattle.std.specs.Prelude.{◌≡◌, ◌≤◌, ◌+◌, ◌++◌, [], length, map, sum_by, IfOk, IfNone};
 ghost use Rattle.std.specs.Option.{option_to_list};
 ghost use Rattle.fcg_grammar.specs.Reading.{Gives};
 ghost use Rattle.fcg_grammar.specs.Rows.{carried};
-ghost use Rattle.fcg_classfile.specs.Sites.{merged};
 ghost use Rattle.fcg_classfile.specs.Breaks.Members.{finished, all_finished};
 ghost use Rattle.fcg_classfile.specs.Breaks.Bootstrap.{call_sites};
-ghost use Rattle.fcg_reader.specs.Internal.Handles.{counted, all_joined, is_second};
+ghost use Rattle.fcg_reader.specs.Internal.Rows.{method_in};
+ghost use Rattle.fcg_reader.specs.Internal.Calls.{unfinished_in};
+ghost use Rattle.fcg_reader.specs.Internal.Handles.{counted, all_joined, is_second, merged_rows};
 
 use crate::bootstrap::Row;
 use crate::calls::{CodeCalls, Unfinished};
 use crate::handles::Bootstraps;
 use crate::names::ClassNames;
+use crate::rows::{MethodRow, SiteRow, SiteRows};
 use fcg_classfile::ClassFault;
 use fcg_grammar::ReadError;
-use fcg_views::{Method, Methods, Site, Sites};
 use std::alloc::{AllocError, Global};
 use std::collections::VecDeque;
 
 // Whether the next site of two lists in the order of pc is one of the second list: where both are at one pc it is that
 // of the first list.
-fn is_handle_next(own: &VecDeque<Site>, handles: &VecDeque<Site>) -> bool
+fn is_handle_next(own: &VecDeque<SiteRow>, handles: &VecDeque<SiteRow>) -> bool
     ensures { result ≡ is_second own.now.items handles.now.items }
 {
     match (own.front(), handles.front()) {
@@ -31,9 +32,9 @@ fn is_handle_next(own: &VecDeque<Site>, handles: &VecDeque<Site>) -> bool
 }
 
 // Takes the next site of two lists in the order of pc.
-fn next_site(own: &mut VecDeque<Site>, handles: &mut VecDeque<Site>) -> Option<Site>
-    ensures value { merged own.old.items handles.old.items ≡ option_to_list result ++ merged own.new.items handles.new.items }
-    ensures end { IfNone result (merged own.old.items handles.old.items ≡ []) }
+fn next_site(own: &mut VecDeque<SiteRow>, handles: &mut VecDeque<SiteRow>) -> Option<SiteRow>
+    ensures value { merged_rows own.old.items handles.old.items ≡ option_to_list result ++ merged_rows own.new.items handles.new.items }
+    ensures end { IfNone result (merged_rows own.old.items handles.old.items ≡ []) }
 {
     if is_handle_next(own, handles) {
         handles.pop_front()
@@ -43,8 +44,8 @@ fn next_site(own: &mut VecDeque<Site>, handles: &mut VecDeque<Site>) -> Option<S
 }
 
 // Two lists in the order of pc as one in this order, in linear time.
-fn merge(alloc: Global, own: Sites, handles: Vec<Site>) -> Result<Sites, AllocError>
-    ensures { IfOk result (λ sites. sites ≡ merged own handles.items) }
+fn merge(alloc: Global, own: SiteRows, handles: Vec<SiteRow>) -> Result<SiteRows, AllocError>
+    ensures { IfOk result (λ sites. sites ≡ merged_rows own handles.items) }
 {
     let mut sites = Vec::with_capacity(alloc, own.as_slice().len() + handles.len())?;
     let mut own = VecDeque::from_vec(own.into_vec());
@@ -52,7 +53,7 @@ fn merge(alloc: Global, own: Sites, handles: Vec<Site>) -> Result<Sites, AllocEr
     while let Some(site) = next_site(&mut own, &mut handles) {
         sites.push(site)?;
     }
-    Ok(Sites::from(sites))
+    Ok(SiteRows::from(sites))
 }
 
 // The handle sites of the calls of a method, where so many sites of the class are before them.
@@ -62,10 +63,10 @@ fn read_calls(
     bootstraps: &mut Bootstraps<'_>,
     calls: &CodeCalls,
     count: usize,
-) -> Result<Vec<Site>, ReadError<ClassFault>>
+) -> Result<Vec<SiteRow>, ReadError<ClassFault>>
     requires pool { names.old ≡ bootstraps.old.pool }
     requires few { count ≤ 1000000 }
-    ensures value { Gives (λ sites. counted count sites.items) result (all_joined (carried (call_sites bootstraps.old.pool bootstraps.old.rows calls.now.begin) calls.now.calls count)) }
+    ensures value { Gives (λ sites. counted bootstraps.old.pool count sites.items) result (all_joined (carried (call_sites bootstraps.old.pool bootstraps.old.rows calls.now.begin) calls.now.calls count)) }
     ensures few { IfOk result (λ sites. count + length sites.items ≤ 1000000) }
     ensures kept { bootstraps.new ≡ bootstraps.old }
     ensures same { names.new ≡ names.old }
@@ -87,10 +88,10 @@ fn finish_method(
     bootstraps: &mut Bootstraps<'_>,
     unfinished: Unfinished,
     count: usize,
-) -> Result<(Method, usize), ReadError<ClassFault>>
+) -> Result<(MethodRow, usize), ReadError<ClassFault>>
     requires pool { names.old ≡ bootstraps.old.pool }
     requires few { count ≤ 1000000 }
-    ensures value { Gives (λ x. (x.0, x.1)) result (finished bootstraps.old.pool bootstraps.old.rows unfinished count) }
+    ensures value { Gives (λ x. (method_in bootstraps.old.pool x.0, x.1)) result (finished bootstraps.old.pool bootstraps.old.rows (unfinished_in bootstraps.old.pool unfinished) count) }
     ensures few { IfOk result (λ x. x.1 ≤ 1000000) }
     ensures kept { bootstraps.new ≡ bootstraps.old }
     ensures same { names.new ≡ names.old }
@@ -102,7 +103,7 @@ fn finish_method(
     }
     let after = count + handles.len();
     let sites = merge(alloc, method.sites, handles)?;
-    let method = Method {
+    let method = MethodRow {
         name: method.name,
         desc: method.desc,
         flags: method.flags,
@@ -139,9 +140,9 @@ pub fn finish_methods(
     names: &mut ClassNames<'_>,
     rows: Vec<Row>,
     methods: Vec<Unfinished>,
-) -> Result<Methods, ReadError<ClassFault>>
+) -> Result<Vec<MethodRow>, ReadError<ClassFault>>
     requires few { sum_by (λ m. length m.0.sites) methods.items ≤ 1000000 }
-    ensures value { Gives (λ methods. methods) result (all_finished names.old rows.items methods.items) }
+    ensures value { Gives (λ done. map (method_in names.old) done.items) result (all_finished names.old rows.items (map (unfinished_in names.old) methods.items)) }
     ensures same { names.new ≡ names.old }
 {
     let mut count = count_sites(&methods);
@@ -152,5 +153,5 @@ pub fn finish_methods(
         done.push(method)?;
         count = after;
     }
-    Ok(Methods::from(done))
+    Ok(done)
 }

@@ -1,19 +1,22 @@
 //! The handle sites of calls of bootstrap methods (JVMS 4.4.8, 4.7.23).
-ghost use Rattle.std.specs.Prelude.{◌≡◌, ◌≤◌, ◌<◌, ◌+◌, ◌^◌, ℕ, List, [], length, Option, None, IfOk, OnOk, option_copied, slice_index_or};
+ghost use Rattle.std.specs.Prelude.{◌≡◌, ◌≤◌, ◌<◌, ◌+◌, ◌^◌, length, IfOk, OnOk};
 ghost use Rattle.fcg_grammar.specs.Reading.{seen, Gives};
 ghost use Rattle.fcg_classfile.specs.Sites.{handle_form};
 ghost use Rattle.fcg_classfile.specs.Breaks.Pool.{Entries};
 ghost use Rattle.fcg_classfile.specs.Breaks.Bootstrap.{index_sites, row_sites, call_sites};
 ghost use Rattle.fcg_reader.specs.Internal.Sites.{form_seen};
-ghost use Rattle.fcg_reader.specs.Internal.Handles.{site_list, bootstraps, moved, all_moved_at, counted, IsKept, GivesMore};
+ghost use Rattle.fcg_reader.specs.Internal.Rows.{sites_in};
+ghost use Rattle.fcg_reader.specs.Internal.Handles.{site_list, bootstraps, moved_row, all_moved_at, counted, GivesMore};
 
 use crate::bootstrap::Row;
+use crate::kept::{find_kept, keep, nothing_kept};
 use crate::names::ClassNames;
+use crate::rows::{SiteRow, SiteRows};
 use crate::site::{MOST_SITES, SiteForm, Target, read_site_of};
 use fcg_classfile::{ClassFault, ClassRule, DynamicCall, at_index, fault_at};
 use fcg_grammar::ReadError;
 use fcg_pool::Pool;
-use fcg_views::{HandleKind, Ref, Site, SiteKind, Sites};
+use fcg_views::{HandleKind, SiteKind};
 use std::alloc::{AllocError, Global};
 use std::marker::Model;
 
@@ -44,8 +47,8 @@ fn read_index_site(
     pc: u16,
     index: u16,
     count: usize,
-) -> Result<Option<Site>, ReadError<ClassFault>>
-    ensures value { Gives (λ site. counted count (site_list site)) result (index_sites names.old at pc index count) }
+) -> Result<Option<SiteRow>, ClassFault>
+    ensures value { seen (λ site. counted names.old count (site_list site)) result ≡ index_sites names.old at pc index count }
     ensures few { IfOk result (λ site. count ≤ 1000000 → count + length (site_list site) ≤ 1000000) }
     ensures same { names.new ≡ names.old }
 {
@@ -68,10 +71,10 @@ fn push_index_site(
     pc: u16,
     index: u16,
     count: usize,
-    sites: &mut Vec<Site>,
+    sites: &mut Vec<SiteRow>,
 ) -> Result<(), ReadError<ClassFault>>
     requires few { count + length sites.old.items ≤ 1000000 }
-    ensures value { GivesMore result count sites.old.items sites.new.items (index_sites names.old at pc index (count + length sites.old.items)) }
+    ensures value { GivesMore names.old result count sites.old.items sites.new.items (index_sites names.old at pc index (count + length sites.old.items)) }
     ensures few { OnOk result (count + length sites.new.items ≤ 1000000) }
     ensures same { names.new ≡ names.old }
 {
@@ -92,9 +95,9 @@ fn read_row_sites(
     at: usize,
     pc: u16,
     count: usize,
-) -> Result<Vec<Site>, ReadError<ClassFault>>
+) -> Result<Vec<SiteRow>, ReadError<ClassFault>>
     requires few { count ≤ 1000000 }
-    ensures value { Gives (λ sites. counted count sites.items) result (row_sites names.old at pc row.now count) }
+    ensures value { Gives (λ sites. counted names.old count sites.items) result (row_sites names.old at pc row.now count) }
     ensures few { IfOk result (λ sites. count + length sites.items ≤ 1000000) }
     ensures same { names.new ≡ names.old }
 {
@@ -108,72 +111,36 @@ fn read_row_sites(
 }
 
 // The same site at another pc.
-fn move_site(site: &Site, pc: u16) -> Result<Site, AllocError>
-    ensures { IfOk result (λ copy. copy ≡ moved pc site.now) }
+fn move_site(site: SiteRow, pc: u16) -> SiteRow
+    ensures { result ≡ moved_row pc site }
 {
-    Ok(Site {
+    SiteRow {
         pc,
         kind: site.kind,
-        target: Ref {
-            owner: site.target.owner.clone()?,
-            owner_is_interface_ref: site.target.owner_is_interface_ref,
-            name: site.target.name.clone()?,
-            desc: site.target.desc.clone()?,
-        },
-    })
+        target: site.target,
+    }
 }
 
 // Adds the sites of a bootstrap method as those of a call at a pc. `count` sites of the class are before those of the
 // list.
 fn push_moved(
-    found: &[Site],
+    found: &[SiteRow],
     at: usize,
     pc: u16,
     count: usize,
-    sites: &mut Vec<Site>,
+    sites: &mut Vec<SiteRow>,
 ) -> Result<(), ReadError<ClassFault>>
     requires few { count + length sites.old.items ≤ 1000000 }
-    ensures value { GivesMore result count sites.old.items sites.new.items (all_moved_at at pc found.now (count + length sites.old.items)) }
+    ensures value { (pool : Entries) → GivesMore pool result count sites.old.items sites.new.items (all_moved_at at pc (sites_in pool found.now) (count + length sites.old.items)) }
     ensures few { OnOk result (count + length sites.new.items ≤ 1000000) }
 {
     for site in found {
         if count + sites.len() >= MOST_SITES {
             return Err(ReadError::Fault(fault_at(at, 0, ClassRule::ManySites)));
         }
-        let copy = move_site(site, pc)?;
-        sites.push(copy)?;
+        sites.push(move_site(*site, pc))?;
     }
     Ok(())
-}
-
-// So many bootstrap methods without their sites.
-fn unread(alloc: Global, count: usize) -> Result<Vec<Option<Sites>>, AllocError>
-    ensures { IfOk result (λ kept. (i : ℕ) → slice_index_or kept.items i None ≡ None) }
-{
-    let mut kept = Vec::with_capacity(alloc, count)?;
-    for _ in 0..count {
-        kept.push(None)?;
-    }
-    Ok(kept)
-}
-
-// The sites of the bootstrap method of a number, where they are kept.
-fn find_kept(kept: &[Option<Sites>], number: u16) -> Option<&Sites>
-    ensures { option_copied result ≡ slice_index_or kept.now number None }
-{
-    match kept.get(usize::from(number)) {
-        Some(Some(sites)) => Some(sites),
-        _ => None,
-    }
-}
-
-// Keeps the sites of the bootstrap method of a number.
-fn keep(kept: &mut Vec<Option<Sites>>, number: u16, sites: Sites)
-    ensures { IsKept number sites kept.old.items kept.new.items }
-{
-    if let Some(slot) = kept.get_mut(usize::from(number)) {
-        *slot = Some(sites);
-    }
 }
 
 /// The bootstrap methods of a class, with the sites of those that calls have used: what the indexes of one name is
@@ -183,7 +150,7 @@ pub struct Bootstraps<'a> {
     pool: &'a Pool<'a>,
     rows: Vec<Row>,
     // by the number of the row the sites of its calls, each at the pc of the first call
-    kept: Vec<Option<Sites>>,
+    kept: Vec<Option<SiteRows>>,
 }
 
 impl<'a> Model for Bootstraps<'a> {
@@ -205,7 +172,7 @@ impl<'a> Bootstraps<'a> {
     ) -> Result<Bootstraps<'a>, AllocError>
         ensures { IfOk result (λ made. made ≡ bootstraps pool.now rows.items) }
     {
-        let kept = unread(alloc, rows.len())?;
+        let kept = nothing_kept(alloc, rows.len())?;
         Ok(Bootstraps { pool, rows, kept })
     }
 
@@ -224,12 +191,12 @@ impl<'a> Bootstraps<'a> {
         begin: usize,
         call: DynamicCall,
         count: usize,
-        sites: &mut Vec<Site>,
+        sites: &mut Vec<SiteRow>,
     ) -> Result<(), ReadError<ClassFault>>
         requires pool { names.old ≡ self.old.pool }
         requires place { begin + call.pc < 2 ^ 64 }
         requires few { count + length sites.old.items ≤ 1000000 }
-        ensures value { GivesMore result count sites.old.items sites.new.items (call_sites self.old.pool self.old.rows begin call (count + length sites.old.items)) }
+        ensures value { GivesMore self.old.pool result count sites.old.items sites.new.items (call_sites self.old.pool self.old.rows begin call (count + length sites.old.items)) }
         ensures few { OnOk result (count + length sites.new.items ≤ 1000000) }
         ensures same { self.new ≡ self.old }
         ensures names { names.new ≡ names.old }
@@ -244,7 +211,7 @@ impl<'a> Bootstraps<'a> {
         let before = count + sites.len();
         let found = read_row_sites(alloc, names, row, at, call.pc, before)?;
         push_moved(&found, at, call.pc, count, sites)?;
-        keep(&mut self.kept, call.bootstrap, Sites::from(found));
+        keep(&mut self.kept, call.bootstrap, SiteRows::from(found));
         Ok(())
     }
 }

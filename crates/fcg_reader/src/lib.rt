@@ -13,11 +13,14 @@ mod fields;
 mod finish;
 mod firsts;
 mod handles;
+mod kept;
 mod members;
 mod methods;
 mod names;
+mod naming;
 mod number;
+mod rows;
 mod site;
 mod text;
 
-pub use class::read_class;
+pub use class::{read_class, read_numbered};

@@ -6,8 +6,9 @@ ghost use Rattle.fcg_classfile.specs.declared.fault.ClassRule.TheVariants.{Doubl
 ghost use Rattle.fcg_classfile.specs.Breaks.Attributes.{one_at, ones_at};
 ghost use Rattle.fcg_classfile.specs.Breaks.Code.{code_at};
 ghost use Rattle.fcg_classfile.specs.Breaks.Members.{unfinished, method_at, methods_at};
-ghost use Rattle.fcg_reader.specs.Internal.Calls.{parts_of};
-ghost use Rattle.fcg_reader.specs.Internal.Members.{declared_of, AreTextsOf, GivesNext, methods_before, code_before, code_sites};
+ghost use Rattle.fcg_classfile.specs.Breaks.Pool.{Entries};
+ghost use Rattle.fcg_reader.specs.Internal.Calls.{parts_of, unfinished_in, all_unfinished_in};
+ghost use Rattle.fcg_reader.specs.Internal.Members.{declared_of, AreTextsOf, GivesNext, methods_before, code_of, code_before, code_sites};
 
 use crate::attributes::pass_named;
 use crate::calls::{CodeCalls, Unfinished};
@@ -16,9 +17,9 @@ use crate::declared::{Declared, find_declared};
 use crate::methods::MethodTable;
 use crate::names::{ClassNames, DescKind};
 use crate::number::read_u2;
+use crate::rows::{MethodRow, SiteRows};
 use fcg_classfile::{ClassFault, ClassRule, fault_at};
 use fcg_grammar::ReadError;
-use fcg_views::{Method, NoMemory, Sites};
 use std::alloc::Global;
 
 // The place after the attribute that stands at a place, and the code so far. A method's second Code is the fault
@@ -33,7 +34,7 @@ fn read_attribute(
     requires place { at ≤ length names.old.bytes }
     requires few { count ≤ 1000000 }
     requires counted { count + length (code_sites code) ≤ 1000000 }
-    ensures value { (k : ℕ) → Gives (λ x. (tt, code_before x.0 x.1)) result (one_at (codes "Code") DoubleCode (code_at count) names.old k (code_before at code)) }
+    ensures value { (k : ℕ) → Gives (λ x. (tt, code_before names.old x.0 x.1)) result (one_at (codes "Code") DoubleCode (code_at count) names.old k (code_before names.old at code)) }
     ensures few { IfOk result (λ x. count + length (code_sites x.1) ≤ 1000000) }
     ensures inside { IfOk result (λ x. x.0 ≤ length names.old.bytes) }
     ensures same { names.new ≡ names.old }
@@ -66,7 +67,7 @@ fn read_attribute_rows(
 ) -> Result<(usize, Option<MethodCode>), ReadError<ClassFault>>
     requires place { at ≤ length names.old.bytes }
     requires few { count ≤ 1000000 }
-    ensures value { Gives (λ x. code_before x.0 x.1) result (ended (rows (one_at (codes "Code") DoubleCode (code_at count) names.old) attributes 0 (code_before at None))) }
+    ensures value { Gives (λ x. code_before names.old x.0 x.1) result (ended (rows (one_at (codes "Code") DoubleCode (code_at count) names.old) attributes 0 (code_before names.old at None))) }
     ensures few { IfOk result (λ x. count + length (code_sites x.1) ≤ 1000000) }
     ensures inside { IfOk result (λ x. x.0 ≤ length names.old.bytes) }
     ensures same { names.new ≡ names.old }
@@ -91,7 +92,7 @@ fn read_attributes(
 ) -> Result<(usize, Option<MethodCode>), ReadError<ClassFault>>
     requires place { at ≤ length names.old.bytes }
     requires few { count ≤ 1000000 }
-    ensures value { Gives (λ x. code_before x.0 x.1) result (ones_at (codes "Code") DoubleCode (code_at count) names.old at) }
+    ensures value { Gives (λ x. code_before names.old x.0 x.1) result (ones_at (codes "Code") DoubleCode (code_at count) names.old at) }
     ensures few { IfOk result (λ x. count + length (code_sites x.1) ≤ 1000000) }
     ensures inside { IfOk result (λ x. x.0 ≤ length names.old.bytes) }
     ensures same { names.new ≡ names.old }
@@ -101,36 +102,34 @@ fn read_attributes(
 }
 
 // The sites and the calls of a code, or none.
-fn parts_or_none(alloc: Global, code: Option<MethodCode>) -> (Sites, CodeCalls)
+fn parts_or_none(alloc: Global, code: Option<MethodCode>) -> (SiteRows, CodeCalls)
     ensures { result ≡ parts_of code }
 {
     match code {
         Some(code) => code.into_parts(),
-        None => (Sites::from(Vec::new(alloc)), CodeCalls::none(alloc)),
+        None => (SiteRows::from(Vec::new(alloc)), CodeCalls::none(alloc)),
     }
 }
 
 // The method that a row declares, with this code.
 fn make_method(
     alloc: Global,
-    names: &mut ClassNames<'_>,
     declared: &Declared<'_>,
     code: Option<MethodCode>,
-) -> Result<Unfinished, NoMemory>
-    requires { AreTextsOf names.old declared.now }
-    ensures ok { IfOk result (λ method. method ≡ unfinished (declared_of declared.now) code) }
-    ensures same { names.new ≡ names.old }
+) -> Unfinished
+    ensures value { (pool : Entries) → AreTextsOf pool declared.now → unfinished_in pool result ≡ unfinished (declared_of declared.now) (code_of pool code) }
+    ensures name { result.0.name ≡ declared.now.name.index }
+    ensures desc { result.0.desc ≡ declared.now.desc.index }
+    ensures sites { result.0.sites ≡ code_sites code }
 {
-    let name = names.name(&declared.name)?;
-    let desc = names.name(&declared.desc)?;
     let (sites, calls) = parts_or_none(alloc, code);
-    let method = Method {
-        name,
-        desc,
+    let method = MethodRow {
+        name: declared.name.index,
+        desc: declared.desc.index,
         flags: declared.flags,
         sites,
     };
-    Ok((method, calls))
+    (method, calls)
 }
 
 // Adds the method that stands at a place, and gives the place after it.
@@ -155,7 +154,7 @@ fn read_method<'a>(
         return Err(ReadError::Fault(fault_at(at, 0, ClassRule::DoubleMethod)));
     }
     let (after, code) = read_attributes(alloc, names, table.site_count(), at + 6)?;
-    let method = make_method(alloc, names, &declared, code)?;
+    let method = make_method(alloc, &declared, code);
     table.push(method, &declared.name, &declared.desc)?;
     Ok(after)
 }
@@ -168,7 +167,7 @@ fn read_method_rows(
     at: usize,
 ) -> Result<(Vec<Unfinished>, usize), ReadError<ClassFault>>
     requires { at ≤ length names.old.bytes }
-    ensures value { Gives (λ x. (x.0.items, methods_before x.1 x.0.items)) result (rows (method_at names.old) count 0 (methods_before at [])) }
+    ensures value { Gives (λ x. (all_unfinished_in names.old x.0.items, methods_before x.1 (all_unfinished_in names.old x.0.items))) result (rows (method_at names.old) count 0 (methods_before at [])) }
     ensures few { IfOk result (λ x. sum_by (λ m. length m.0.sites) x.0.items ≤ 1000000) }
     ensures inside { IfOk result (λ x. x.1 ≤ length names.old.bytes) }
     ensures same { names.new ≡ names.old }
@@ -192,7 +191,7 @@ pub fn read_methods(
     at: usize,
 ) -> Result<(Vec<Unfinished>, usize), ReadError<ClassFault>>
     requires { at ≤ length names.old.bytes }
-    ensures value { Gives (λ x. (x.0.items, x.1)) result (methods_at names.old at) }
+    ensures value { Gives (λ x. (all_unfinished_in names.old x.0.items, x.1)) result (methods_at names.old at) }
     ensures few { IfOk result (λ x. sum_by (λ m. length m.0.sites) x.0.items ≤ 1000000) }
     ensures inside { IfOk result (λ x. x.1 ≤ length names.old.bytes) }
     ensures same { names.new ≡ names.old }

@@ -3,6 +3,7 @@ ghost use Rattle.std.specs.Prelude.{◌≡◌, ◌≤◌, ◌+◌, ◌++◌, ◌
 ghost use Rattle.std.specs.List.{list_any};
 ghost use Rattle.fcg_classfile.specs.Breaks.Pool.{text_of};
 ghost use Rattle.fcg_views.specs.Valid.{site_count};
+ghost use Rattle.fcg_reader.specs.Internal.Calls.{unfinished_in, all_unfinished_in};
 ghost use Rattle.fcg_reader.specs.Internal.Methods.{is_signature, methods_of};
 
 use crate::calls::Unfinished;
@@ -26,13 +27,14 @@ pub struct MethodTable<'a> {
 }
 
 impl<'a> Model for MethodTable<'a> {
-    ghost use Rattle.fcg_reader.specs.Internal.Methods.{Table, IsTable};
+    ghost use Rattle.fcg_reader.specs.Internal.Calls.{all_unfinished_in};
+    ghost use Rattle.fcg_reader.specs.Internal.Methods.{Table, table, IsTable};
 
     ghost Value = { Table };
 
-    ghost view = { λ t. record { pool = t.texts.pool.now; methods = t.methods.items } };
+    ghost view = { λ t. table t.texts.pool.now t.methods.items };
 
-    ghost invariant = { λ t. IsTable t.methods.items t.texts.pool.now t.texts.known t.texts.firsts.items t.signatures t.sites };
+    ghost invariant = { λ t. IsTable (all_unfinished_in t.texts.pool.now t.methods.items) t.texts.pool.now t.texts.known t.texts.firsts.items t.signatures t.sites };
 }
 
 impl<'a> MethodTable<'a> {
@@ -82,10 +84,10 @@ impl<'a> MethodTable<'a> {
         name: &Text<'a>,
         desc: &Text<'a>,
     ) -> Result<(), AllocError>
-        requires name { (text_of self.old.pool name.now.index ≡ Ok name.now.bytes.now) × (method.0.name ≡ name.now.bytes.now) }
-        requires desc { (text_of self.old.pool desc.now.index ≡ Ok desc.now.bytes.now) × (method.0.desc ≡ desc.now.bytes.now) }
+        requires name { (text_of self.old.pool name.now.index ≡ Ok name.now.bytes.now) × (method.0.name ≡ name.now.index) }
+        requires desc { (text_of self.old.pool desc.now.index ≡ Ok desc.now.bytes.now) × (method.0.desc ≡ desc.now.index) }
         requires few { site_count (methods_of self.old.methods) + length method.0.sites ≤ 1000000 }
-        ensures ok { OnOk result (self.new.methods ≡ self.old.methods ++ method ∷ []) }
+        ensures ok { OnOk result (self.new.methods ≡ self.old.methods ++ unfinished_in self.old.pool method ∷ []) }
         ensures same { self.new.pool ≡ self.old.pool }
     {
         self.methods.reserve(1)?;
@@ -98,7 +100,7 @@ impl<'a> MethodTable<'a> {
 
     /// The methods.
     pub fn into_methods(self) -> Vec<Unfinished>
-        ensures methods { result.items ≡ self.entry.methods }
+        ensures methods { all_unfinished_in self.entry.pool result.items ≡ self.entry.methods }
         ensures few { sum_by (λ m. length m.0.sites) result.items ≤ 1000000 }
     {
         self.methods

@@ -1,11 +1,10 @@
-//! The texts of a class file: the names of all share one copy of its bytes, and a descriptor is read once.
-ghost use Rattle.std.specs.Prelude.{◌≡◌, Ok, IfOk, []};
+//! The texts of a class file, of which a descriptor is read once.
+ghost use Rattle.std.specs.Prelude.{◌≡◌, Ok, IfOk};
 ghost use Rattle.fcg_classfile.specs.Breaks.Pool.{text_of};
-ghost use Rattle.fcg_pool.specs.CodeValues.{IsTextOf};
 ghost use Rattle.fcg_reader.specs.Internal.Names.{AllUntyped, is_of_kind, descs};
 
 use fcg_pool::{Pool, Text};
-use fcg_views::{Name, NoMemory, read_descriptor, read_field_descriptor};
+use fcg_views::{read_descriptor, read_field_descriptor};
 use std::alloc::{AllocError, Global};
 use std::marker::Model;
 
@@ -18,13 +17,11 @@ pub enum DescKind {
     Method,
 }
 
-/// The constant pool of a class file, with what its texts are made into: names, which share one copy of the file's
-/// bytes, and what was found of them, which are field descriptors and which are method descriptors.
+/// The constant pool of a class file, with what was found of its texts: which are field descriptors and which are method
+/// descriptors.
 #[derive(Drop)]
 pub struct ClassNames<'a> {
     pool: &'a Pool<'a>,
-    // the bytes of the file, of which each name is a part
-    file: Name,
     fields: FoundDescs<'a>,
     methods: FoundDescs<'a>,
 }
@@ -37,20 +34,18 @@ impl<'a> Model for ClassNames<'a> {
 
     ghost view = { λ n. n.pool.now };
 
-    ghost invariant = { λ n. IsKnown n.pool.now n.file n.fields n.methods };
+    ghost invariant = { λ n. IsKnown n.pool.now n.fields n.methods };
 }
 
 impl<'a> ClassNames<'a> {
-    /// No descriptor is read yet. It takes memory for the file's bytes and for each index of the pool.
-    pub fn new(alloc: Global, pool: &'a Pool<'a>) -> Result<ClassNames<'a>, NoMemory>
+    /// No descriptor is read yet. It takes memory for each index of the pool.
+    pub fn new(alloc: Global, pool: &'a Pool<'a>) -> Result<ClassNames<'a>, AllocError>
         ensures { IfOk result (λ names. names ≡ pool.now) }
     {
-        let file = Name::from_slice(alloc, pool.bytes())?;
         let fields = FoundDescs::new(alloc, pool, DescKind::Field)?;
         let methods = FoundDescs::new(alloc, pool, DescKind::Method)?;
         Ok(ClassNames {
             pool,
-            file,
             fields,
             methods,
         })
@@ -61,21 +56,6 @@ impl<'a> ClassNames<'a> {
         ensures { result.now ≡ self.now }
     {
         self.pool
-    }
-
-    /// The name without a byte.
-    pub fn empty_name(&self) -> Result<Name, AllocError>
-        ensures { IfOk result (λ name. name ≡ []) }
-    {
-        self.file.part(0, 0)
-    }
-
-    /// The name of a text. It takes constant time.
-    pub fn name(&self, text: &Text<'_>) -> Result<Name, AllocError>
-        requires { IsTextOf self.now text.now }
-        ensures { IfOk result (λ name. name ≡ text.now.bytes.now) }
-    {
-        self.file.part(text.at, text.bytes.len())
     }
 
     /// Whether a text is a descriptor of a kind. One that is is read once, however often it is asked for.

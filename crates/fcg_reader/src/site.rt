@@ -1,21 +1,24 @@
 //! The sites of a method's code, and its calls of bootstrap methods: the instructions that name a method, a field, a
 //! type or a bootstrap method (JVMS 6.5).
-ghost use Rattle.std.specs.Prelude.{◌≡◌, ◌+◌, ◌<◌, ◌^◌, false, None, OnOk, IfOk, slice_index};
-ghost use Rattle.fcg_grammar.specs.Reading.{seen, Gives};
+ghost use Rattle.std.specs.Prelude.{◌≡◌, ◌+◌, ◌<◌, ◌^◌, OnOk, IfOk, slice_index};
+ghost use Rattle.fcg_grammar.specs.Reading.{seen};
 ghost use Rattle.fcg_classfile.specs.Sites.{ToType, site_form, is_dynamic};
+ghost use Rattle.fcg_classfile.specs.Breaks.Pool.{Entries};
 ghost use Rattle.fcg_classfile.specs.Breaks.Instructions.{operand_at};
 ghost use Rattle.fcg_classfile.specs.Breaks.Code.{member_of, target_of, site_of, found_at};
 ghost use Rattle.fcg_pool.specs.CodeValues.{AreRefTexts};
 ghost use Rattle.fcg_reader.specs.Internal.Names.{is_of_kind};
 ghost use Rattle.fcg_reader.specs.Internal.Calls.{ArePlaced};
+ghost use Rattle.fcg_reader.specs.Internal.Rows.{ref_in, site_in};
 ghost use Rattle.fcg_reader.specs.Internal.Sites.{GivesFound, form_in, form_seen, target_in, ref_of};
 
 use crate::names::{ClassNames, DescKind};
+use crate::rows::{RefRow, SiteRow};
 use crate::text::find_type_of;
 use fcg_classfile::{ClassFault, ClassRule, DynamicCall, at_index, fault_at};
 use fcg_grammar::ReadError;
-use fcg_pool::{Instruction, RefTexts, is_one_of};
-use fcg_views::{NoMemory, Ref, Site, SiteKind};
+use fcg_pool::{Instruction, Pool, RefTexts, is_one_of};
+use fcg_views::SiteKind;
 
 /// How many sites a class may have.
 pub const MOST_SITES: usize = 1_000_000;
@@ -98,17 +101,15 @@ fn find_member<'a>(
 
 // A member of a type.
 #[inline(always)]
-fn make_ref(names: &mut ClassNames<'_>, member: &RefTexts<'_>) -> Result<Ref, NoMemory>
-    requires { AreRefTexts names.old member.now }
-    ensures ok { IfOk result (λ target. target ≡ ref_of member.now) }
-    ensures same { names.new ≡ names.old }
+fn row_of(member: &RefTexts<'_>) -> RefRow
+    ensures { (pool : Entries) → AreRefTexts pool member.now → ref_in pool result ≡ ref_of member.now }
 {
-    Ok(Ref {
-        owner: names.name(&member.owner)?,
+    RefRow {
+        owner: member.owner.index,
         owner_is_interface_ref: member.tag == 11,
-        name: names.name(&member.name)?,
-        desc: names.name(&member.desc)?,
-    })
+        name: member.name.index,
+        desc: member.desc.index,
+    }
 }
 
 // The member of a type that an index names, by a constant of one of these tags and with a descriptor of a kind.
@@ -118,29 +119,25 @@ fn read_member(
     tags: &[u8],
     at: usize,
     index: u16,
-) -> Result<Ref, ReadError<ClassFault>>
-    ensures value { Gives (λ target. target) result (member_of names.old (is_of_kind kind) tags.now at index) }
+) -> Result<RefRow, ClassFault>
+    ensures value { seen (ref_in names.old) result ≡ member_of names.old (is_of_kind kind) tags.now at index }
     ensures same { names.new ≡ names.old }
 {
     let member = find_member(names, kind, tags, at, index)?;
-    Ok(make_ref(names, &member)?)
+    Ok(row_of(&member))
 }
 
 // The type that an index names, without a member.
-fn read_type_ref(
-    names: &mut ClassNames<'_>,
-    at: usize,
-    index: u16,
-) -> Result<Ref, ReadError<ClassFault>>
-    ensures value { Gives (λ target. target) result (target_of names.old ToType at index) }
-    ensures same { names.new ≡ names.old }
+#[tactic(auto, using(crate::proofs::RowLemmas::no_text))]
+fn read_type_ref(pool: &Pool<'_>, at: usize, index: u16) -> Result<RefRow, ClassFault>
+    ensures { seen (ref_in pool.now) result ≡ target_of pool.now ToType at index }
 {
-    let owner = find_type_of(names.pool(), at, index)?;
-    Ok(Ref {
-        owner: names.name(&owner)?,
+    let owner = find_type_of(pool, at, index)?;
+    Ok(RefRow {
+        owner: owner.index,
         owner_is_interface_ref: false,
-        name: names.empty_name()?,
-        desc: names.empty_name()?,
+        name: 0,
+        desc: 0,
     })
 }
 
@@ -151,14 +148,14 @@ fn read_target(
     target: Target,
     at: usize,
     index: u16,
-) -> Result<Ref, ReadError<ClassFault>>
-    ensures value { Gives (λ named. named) result (target_of names.old (target_in target) at index) }
+) -> Result<RefRow, ClassFault>
+    ensures value { seen (ref_in names.old) result ≡ target_of names.old (target_in target) at index }
     ensures same { names.new ≡ names.old }
 {
     match target {
         Target::Method(tags) => read_member(names, DescKind::Method, tags, at, index),
         Target::Field => read_member(names, DescKind::Field, &[9], at, index),
-        Target::Type => read_type_ref(names, at, index),
+        Target::Type => read_type_ref(names.pool(), at, index),
     }
 }
 
@@ -179,15 +176,15 @@ pub fn read_site_of(
     pc: u16,
     index: u16,
     count: usize,
-) -> Result<Site, ReadError<ClassFault>>
-    ensures value { Gives (λ site. site) result (site_of names.old (form_in form) at pc index count) }
+) -> Result<SiteRow, ClassFault>
+    ensures value { seen (site_in names.old) result ≡ site_of names.old (form_in form) at pc index count }
     ensures same { names.new ≡ names.old }
 {
     let target = read_target(names, form.target, at, index)?;
     if count >= MOST_SITES {
-        return Err(ReadError::Fault(fault_at(at, 0, ClassRule::ManySites)));
+        return Err(fault_at(at, 0, ClassRule::ManySites));
     }
-    Ok(Site {
+    Ok(SiteRow {
         pc,
         kind: form.kind,
         target,
@@ -206,13 +203,13 @@ pub fn push_site_or_call(
     pc: u16,
     instruction: Instruction,
     count: usize,
-    sites: &mut Vec<Site>,
+    sites: &mut Vec<SiteRow>,
     calls: &mut Vec<DynamicCall>,
 ) -> Result<(), ReadError<ClassFault>>
     requires place { code.begin + pc < 2 ^ 64 }
     requires opcode { instruction.opcode ≡ slice_index code.bytes.now pc }
     requires operand { instruction.operand ≡ operand_at code.bytes.now pc }
-    ensures value { GivesFound result sites.old.items sites.new.items calls.old.items calls.new.items (found_at names.old code.entry.begin code.entry.bytes.now pc count) }
+    ensures value { GivesFound names.old result sites.old.items sites.new.items calls.old.items calls.new.items (found_at names.old code.entry.begin code.entry.bytes.now pc count) }
     ensures placed { ArePlaced code.entry.begin calls.old.items → OnOk result (ArePlaced code.entry.begin calls.new.items) }
     ensures same { names.new ≡ names.old }
 {

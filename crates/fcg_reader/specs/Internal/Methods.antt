@@ -9,7 +9,9 @@ use Rattle.std.specs.BTreeSet.{BTreeSet}
 use Rattle.fcg_views.specs.declared.view.Method.{Method}
 use Rattle.fcg_views.specs.Valid.{site_count}
 use Rattle.fcg_classfile.specs.Breaks.Pool.{Entries}
-use Rattle.fcg_classfile.specs.Breaks.Members.{Unfinished}
+use Rattle.fcg_classfile.specs.Breaks.Members.{Calls, Unfinished}
+use Rattle.fcg_reader.specs.declared.rows.MethodRow.{MethodRow}
+use Rattle.fcg_reader.specs.Internal.Calls.{all_unfinished_in}
 use Rattle.fcg_reader.specs.Internal.FirstIndexes.{Known, first_in, AreAsked}
 
 -- the method has this name and descriptor
@@ -20,6 +22,9 @@ is_signature name desc m = pointwise nat_eq m.name name && pointwise nat_eq m.de
 pub record Table : Type 0 where
   pub pool : Entries
   pub methods : List Unfinished
+
+abbrev pub table : Entries → List (MethodRow × Calls) → Table
+table pool methods = record { pool = pool; methods = all_unfinished_in pool methods }
 
 -- without their calls
 abbrev pub methods_of : List Unfinished → List Method

@@ -1,4 +1,4 @@
--- What is known of a pool's texts: the file's bytes, of which names are made, and the descriptors that were found.
+-- What is known of a pool's texts: the descriptors that were found.
 use Rattle.std.specs.Prelude.{◌≡◌, ℕ, List, Bool, true, false, slice_index_or, Ok}
 use Rattle.fcg_views.specs.DescriptorSteps.{is_descriptor, is_field_descriptor}
 use Rattle.fcg_classfile.specs.Breaks.Pool.{Entries, text_of}
@@ -26,7 +26,6 @@ pub record Descs : Type 0 where
 abbrev pub descs : Entries → DescKind → Descs
 descs pool kind = record { pool = pool; kind = kind }
 
-pub record IsKnown (pool : Entries) (file : List ℕ) (fields methods : Descs) : Type 0 where
-  pub file_is : file ≡ pool.bytes
+pub record IsKnown (pool : Entries) (fields methods : Descs) : Type 0 where
   pub fields_are : fields ≡ descs pool Field
   pub methods_are : methods ≡ descs pool Method

@@ -1,14 +1,10 @@
-use Rattle.std.proofs.Common.{subst, arith}
-use Rattle.fcg_grammar.specs.Reading.{Gives}
-use Rattle.fcg_classfile.proofs.ClassLaws.{is_found, class_only}
-use Rattle.fcg_reader.proofs.ViewLemmas.{is_valid}
+use Rattle.std.proofs.Common.{sym, ap, ◌∙◌}
+use Rattle.std.specs.Prelude.{Option, Some, Ok}
+use Rattle.fcg_views.specs.declared.view.View.{View}
 use Rattle.fcg_reader.proofs.class.read_class.Goals as goal
 
-pub returns-clause-found : goal.returns-clause-found
-returns-clause-found c = is_found c.args.bytes.now c.read_whole.result (λ i. omega (arith, c.type_inv.bytes i)) c.read_whole.ensures
+pub returns-in-Some-clause-only : goal.returns-in-Some-clause-only
+returns-in-Some-clause-only c = λ view reads. c.in_ok-numbered.ensures.only view reads ∙ ap (λ (v : Option View). Ok v) (c.in-Some.is ∙ ap (λ (v : View). Some v) (sym c.into_view.ensures))
 
-pub returns-clause-only : goal.returns-clause-only
-returns-clause-only c = λ view reads. subst (λ f. Gives (λ v. v) c.read_whole.result f) (class_only c.args.bytes.now view (λ i. omega (arith, c.type_inv.bytes i)) reads) c.read_whole.ensures
-
-pub returns-clause-valid : goal.returns-clause-valid
-returns-clause-valid c = is_valid c.args.bytes.now c.read_whole.result (λ i. omega (arith, c.type_inv.bytes i)) c.read_whole.ensures
+pub returns-in-None-clause-only : goal.returns-in-None-clause-only
+returns-in-None-clause-only c = λ view reads. c.in_ok-numbered.ensures.only view reads ∙ ap (λ (v : Option View). Ok v) c.in-None.is

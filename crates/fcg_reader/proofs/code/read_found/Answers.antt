@@ -1,6 +1,8 @@
 use Rattle.std.proofs.Common.{refl, sym, ◌∙◌, arith}
 use Rattle.std.proofs.lemmas.Result.{err_from_is_err_and}
-use Rattle.std.proofs.lemmas.List.{length-append}
+use Rattle.std.proofs.lemmas.List.{length-append, length-map, map-append}
+use Rattle.fcg_reader.specs.Internal.Rows.{site_in}
+use Rattle.fcg_reader.specs.Internal.Calls.{found_in}
 use Rattle.fcg_reader.proofs.CodeLemmas.{found_begin, found_go_on, found_pass, found_counted, next_fails, found_fails, found_done}
 use Rattle.fcg_reader.proofs.code.read_found.Goals as goal
 
@@ -21,21 +23,27 @@ returns-in_err-instruction-clause-value c =
 pub returns-in_err-push_site_or_call-clause-value : goal.returns-in_err-push_site_or_call-clause-value
 returns-in_err-push_site_or_call-clause-value c =
     let p = err_from_is_err_and c.from_residual-in_err-push_site_or_call.result c.from_residual-in_err-push_site_or_call.ensures.1 in
-    let given = rw (c.loop-pc.invariant.4, c.len.ensures, c.loop-pc.sites.ok.0) at c.in_err-push_site_or_call.ensures.value in
+    let as_many = length-map c.loop-pc.sites.items (site_in c.args.names.now) in
+    let given = rw (c.loop-pc.invariant.4, c.len.ensures, c.loop-pc.sites.ok.0, ← as_many) at c.in_err-push_site_or_call.ensures.value in
     rw (p.1, p.2) (found_fails c.args.names.now c.args.code.begin c.args.code.bytes.now c.in_err-push_site_or_call.field-0.0 c.args.count c.loop-pc.pc _ _ _ c.loop-pc-test.true (sym c.in_ok-instruction.ensures.value) given c.loop-pc.invariant.0)
 
 pub loop-pc-preserved : goal.loop-pc-preserved
 loop-pc-preserved c =
-    let given = rw (c.loop-pc.invariant.4, c.len.ensures, c.loop-pc.sites.ok.0) at c.in_ok-push_site_or_call.ensures.value in
     let inv = c.loop-pc.invariant in
+    let names = c.args.names.now in
+    let before = c.loop-pc.sites.items in
+    let as_many = length-map before (site_in names) in
+    let given = rw (inv.4, c.len.ensures, c.loop-pc.sites.ok.0, ← as_many) at c.in_ok-push_site_or_call.ensures.value in
     let here = given.0 in
-    let few = found_counted c.args.names.now c.args.code.begin c.args.code.bytes.now c.loop-pc.pc _ here given.1 inv.2 in
-    let all = length-append c.loop-pc.sites.items here.sites in
+    let as_many_here = length-map here.sites (site_in names) in
+    let all = length-append before here.sites in
+    let few_before = inv.2 in
+    let few = found_counted names c.args.code.begin c.args.code.bytes.now c.loop-pc.pc _ (found_in names here) given.1 (omega (arith, few_before, as_many)) in
     let placed = c.in_ok-push_site_or_call.ensures.placed inv.3 in
     rw (given.2) (
-      rw (given.3) (found_go_on c.args.names.now c.args.code.begin c.args.code.bytes.now c.args.count c.loop-pc.pc _ _ here _ c.loop-pc-test.true c.in_ok-instruction.ensures.inside.0 (sym c.in_ok-instruction.ensures.value) given.1 inv.0),
+      rw (given.3, map-append (site_in names) before here.sites) (found_go_on names c.args.code.begin c.args.code.bytes.now c.args.count c.loop-pc.pc _ _ (found_in names here) _ c.loop-pc-test.true c.in_ok-instruction.ensures.inside.0 (sym c.in_ok-instruction.ensures.value) given.1 inv.0),
       c.in_ok-instruction.ensures.inside.1,
-      omega (arith, few, all),
+      omega (arith, few, all, as_many, as_many_here),
       placed,
       c.in_ok-push_site_or_call.ensures.same ∙ inv.4,
     )

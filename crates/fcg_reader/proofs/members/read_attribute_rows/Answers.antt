@@ -11,7 +11,7 @@ loop-preserved c =
     let inv = c.loop.invariant in
     let given = rw inv.3 at (c.in_ok-after.ensures.value c.loop.counter) in
     let same = c.in_ok-after.ensures.same in (
-      ended_goes_on (one_at (codes "Code") DoubleCode (code_at c.args.count) c.args.names.now) c.args.attributes c.loop.counter (code_before c.loop.place c.loop.code) tt (code_before c.in_ok-after.after c.in_ok-after.found) _ c.loop-test.true given inv.0,
+      ended_goes_on (one_at (codes "Code") DoubleCode (code_at c.args.count) c.args.names.now) c.args.attributes c.loop.counter (code_before c.args.names.now c.loop.place c.loop.code) tt (code_before c.args.names.now c.in_ok-after.after c.in_ok-after.found) _ c.loop-test.true given inv.0,
       rw same c.in_ok-after.ensures.inside,
       c.in_ok-after.ensures.few,
       same ∙ inv.3,

@@ -9,7 +9,7 @@ use Rattle.fcg_reader.proofs.members.read_attribute_rows.Given as goal
 
 abbrev pub invariant-loop : goal.invariant-loop
 invariant-loop l =
-    (ended (rows (one_at (codes "Code") DoubleCode (code_at l.count) l.fn.names) (l.attributes - l.counter) l.counter (code_before l.place l.code)) ≡ ended (rows (one_at (codes "Code") DoubleCode (code_at l.count) l.fn.names) l.attributes 0 (code_before l.at None)))
+    (ended (rows (one_at (codes "Code") DoubleCode (code_at l.count) l.fn.names) (l.attributes - l.counter) l.counter (code_before l.fn.names l.place l.code)) ≡ ended (rows (one_at (codes "Code") DoubleCode (code_at l.count) l.fn.names) l.attributes 0 (code_before l.fn.names l.at None)))
     × (l.place ≤ length l.names.bytes)
     × (l.count + length (code_sites l.code) ≤ 1000000)
     × (l.names ≡ l.fn.names)

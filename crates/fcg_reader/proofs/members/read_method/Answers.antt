@@ -1,7 +1,7 @@
 use Rattle.std.proofs.Common.{◌≡◌, ◌∷◌, [], ◌++◌, sym, ap, ◌∙◌}
 use Rattle.std.proofs.lemmas.Result.{err_from_is_err_and}
 use Rattle.fcg_classfile.specs.Breaks.Members.{Unfinished, unfinished}
-use Rattle.fcg_reader.specs.Internal.Members.{declared_of, code_before}
+use Rattle.fcg_reader.specs.Internal.Members.{declared_of, code_of, code_before}
 use Rattle.fcg_reader.proofs.MethodLemmas.{method_at-doubled, method_at-broken, method_at-read}
 use Rattle.fcg_reader.proofs.members.read_method.Goals as goal
 
@@ -24,7 +24,9 @@ returns-clause-value c =
     let d = declared_of c.in_ok-declared.declared in
     let declared = rw c.requires.pool at (sym c.in_ok-declared.ensures.value) in
     let given = rw (c.in_ok-declared.ensures.same, c.requires.pool, c.site_count.ensures.value, c.in_ok-doubled.ensures.same) at c.in_ok-after.ensures.value in
-    let m = unfinished d c.in_ok-after.code in
+    let pool = c.args.table.now.pool in
+    let m = unfinished d (code_of pool c.in_ok-after.code) in
+    let named = rw c.requires.pool at c.in_ok-declared.ensures.named in
     let pushed : c.push.new.self.methods ≡ c.args.table.now.methods ++ m ∷ [] =
-    (rw c.in_ok-doubled.ensures.same at c.in_ok-push.ensures.ok) ∙ ap (λ (x : Unfinished). c.args.table.now.methods ++ x ∷ []) c.in_ok-method.ensures.ok in
-    λ k. (m, pushed, rw pushed (method_at-read c.args.table.now.pool k c.args.at c.args.table.now.methods d (code_before c.in_ok-after.after c.in_ok-after.code) declared (sym c.in_ok-doubled.ensures.value ∙ c.if-doubled.false) given))
+    (rw c.in_ok-doubled.ensures.same at c.in_ok-push.ensures.ok) ∙ ap (λ (x : Unfinished). c.args.table.now.methods ++ x ∷ []) (c.make_method-method.ensures.value pool named) in
+    λ k. (m, pushed, rw pushed (method_at-read c.args.table.now.pool k c.args.at c.args.table.now.methods d (code_before pool c.in_ok-after.after c.in_ok-after.code) declared (sym c.in_ok-doubled.ensures.value ∙ c.if-doubled.false) given))

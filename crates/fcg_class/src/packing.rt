@@ -210,27 +210,6 @@ fn check_paths(files: &[PackedFile]) -> Result<(), PackRefusal>
     }
 }
 
-// Reads the files of a folder that are packed, and checks their paths.
-fn read_folder<F: Files>(
-    alloc: Global,
-    files: &mut F,
-    folder: &str,
-) -> Result<Vec<PackedFile>, PackRefusal>
-    ensures packed { IfOk result (λ read. ArePacked (F.told files.old) folder.now (map entry_of read.items)) }
-    ensures short { IfOk result (λ read. bundle_size (map entry_of read.items) ≤ bundle_limit) }
-    ensures paths { IfOk result (λ read. bad_path (map entry_of read.items) ≡ None) }
-    ensures refused { IfSome (F.told files.old) (λ told. IfErr result (λ e. IsRefusal e (pack_of told folder.now))) }
-    ensures failed { IsErrOf result PackRefusal.FilesFailed → Rose (F.faults files.old) (F.faults files.new) }
-    ensures unwritten { ¬ IsErrOf result PackRefusal.WriteFailed }
-    ensures later { F.faults files.old ≤ F.faults files.new }
-    ensures told { F.told files.new ≡ F.told files.old }
-{
-    let paths = choose_paths(files.list(alloc, folder)?);
-    let read = read_files(alloc, files, folder, paths)?;
-    check_paths(&read)?;
-    Ok(read)
-}
-
 // Adds the entry of a file to a bundle.
 fn push_entry(out: &mut Vec<u8>, file: PackedFile) -> Result<(), AllocError>
     requires short { entry_size (entry_of file) ≤ bundle_limit }
@@ -295,7 +274,9 @@ pub fn pack<F: Files, W: Sink>(
     ensures told { F.told files.new ≡ F.told files.old }
     ensures aside { W.aside sink.new ≡ W.aside sink.old }
 {
-    let read = read_folder(alloc, files, folder)?;
+    let paths = choose_paths(files.list(alloc, folder)?);
+    let read = read_files(alloc, files, folder, paths)?;
+    check_paths(&read)?;
     let count = read.len() as u32;
     let bundle = spell(alloc, read)?;
     write_whole(sink, bundle.as_slice())?;

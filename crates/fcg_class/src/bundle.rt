@@ -11,8 +11,8 @@ ghost use Rattle.fcg_class.specs.Path.{is_class_path};
 use crate::path::{is_class_path, is_path, is_path_length, is_versioned};
 use fcg_classfile::ClassFault;
 use fcg_grammar::{ReadError, read_part, read_u2, read_u4};
-use fcg_reader::read_class;
-use fcg_views::{View, Views, sites_left};
+use fcg_reader::read_numbered;
+use fcg_views::{NumberedView, Views, sites_left};
 use std::alloc::{AllocError, Global};
 use std::collections::BTreeSet;
 
@@ -115,13 +115,13 @@ fn read_held(
     entry: u32,
     path: &[u8],
     body: &[u8],
-) -> Result<Option<View>, ReadError<BundleFault>>
+) -> Result<Option<NumberedView>, ReadError<BundleFault>>
     ensures { Gives (λ x. x) result (held entry (is_class_path path.now) body.now) }
 {
     if !is_class_path(path) {
         return Ok(None);
     }
-    match read_class(alloc, body) {
+    match read_numbered(alloc, body) {
         Ok(view) => Ok(view),
         Err(error) => Err(in_entry(entry, error)),
     }
@@ -135,7 +135,7 @@ fn read_body(
     entry: u32,
     path: &[u8],
     at: usize,
-) -> Result<(Option<View>, usize), ReadError<BundleFault>>
+) -> Result<(Option<NumberedView>, usize), ReadError<BundleFault>>
     requires { at ≤ length bytes.now }
     ensures value { Gives (λ x. (x.0, x.1)) result (body_at bytes.now entry path.now at) }
     ensures inside { IfOk result (λ x. x.1 ≤ length bytes.now) }
@@ -156,17 +156,17 @@ struct Ahead {
 
 // How many sites the class files may still have after this one, or `None` where it has more than that. What has no view
 // has none.
-fn room_after(room: usize, view: &Option<View>) -> Option<usize>
+fn room_after(room: usize, view: &Option<NumberedView>) -> Option<usize>
     ensures { result ≡ left_of room (sites_in view.now) }
 {
     match view {
-        Some(view) => sites_left(room, view.methods.as_slice()),
+        Some(numbered) => sites_left(room, numbered.view().methods.as_slice()),
         None => Some(room),
     }
 }
 
 // The view of an entry, where it is shown.
-fn show(path: &[u8], view: Option<View>) -> Option<View>
+fn show(path: &[u8], view: Option<NumberedView>) -> Option<NumberedView>
     ensures { result ≡ shown path.now view }
 {
     if is_versioned(path) { None } else { view }
@@ -180,7 +180,7 @@ fn read_entry<'a>(
     entry: u32,
     paths: &mut BTreeSet<&'a [u8]>,
     ahead: Ahead,
-) -> Result<(Option<View>, Ahead), ReadError<BundleFault>>
+) -> Result<(Option<NumberedView>, Ahead), ReadError<BundleFault>>
     requires { ahead.at ≤ length bytes.now }
     ensures value { (before : List (List ℕ)) → ArePaths paths.old before → GivesEntry result paths.new before (entry_at bytes.now entry (entries_before ahead before)) }
     ensures inside { IfOk result (λ x. x.1.at ≤ length bytes.now) }
@@ -197,8 +197,8 @@ fn read_entry<'a>(
 }
 
 // Adds a view, where there is one.
-fn push_view(views: &mut Vec<View>, view: Option<View>) -> Result<(), AllocError>
-    ensures { OnOk result (views.new.items ≡ views.old.items ++ some_of view) }
+fn push_view(views: &mut Views, view: Option<NumberedView>) -> Result<(), AllocError>
+    ensures { OnOk result (views.new ≡ views.old ++ some_of view) }
 {
     if let Some(view) = view {
         views.push(view)?;
@@ -217,7 +217,7 @@ fn read_entries(
     ensures value { GivesEntries result (rows (entry_at bytes.now) count 0 (before_first at)) }
     ensures inside { IfOk result (λ x. x.1 ≤ length bytes.now) }
 {
-    let mut views = Vec::new(alloc);
+    let mut views = Views::new(alloc);
     let mut paths = BTreeSet::new(alloc);
     let mut ahead = Ahead {
         at,
@@ -228,7 +228,7 @@ fn read_entries(
         push_view(&mut views, view)?;
         ahead = after;
     }
-    Ok((Views::from(views), ahead.at))
+    Ok((views, ahead.at))
 }
 
 // The views of a bundle that is no jar.
@@ -273,8 +273,8 @@ fn read_whole(alloc: Global, bytes: &[u8]) -> Result<Views, ReadError<BundleFaul
 ///
 /// It makes one pass over the bytes. For each entry it makes some comparisons of paths more, about the logarithm of the
 /// number of entries, and likewise for each Utf8 that names a method and, of indexes, for each method. The names of a
-/// view share one copy of its class file. Beside the views it takes memory for one class file's pool and for a set of
-/// the paths, which stay in the bytes.
+/// view share one copy of its class file, and are kept by the numbers of their texts too. Beside the views it takes memory
+/// for one class file's pool and for a set of the paths, which stay in the bytes.
 pub fn read_bundle(alloc: Global, bytes: &[u8]) -> Result<Views, ReadError<BundleFault>>
     // What is read is a bundle with this content.
     ensures found { IfOk result (Content bytes.now) }

@@ -7,13 +7,13 @@ use Rattle.fcg_class.proofs.EntryLemmas.{ArePaths-none, entries_begin, entries_g
 use Rattle.fcg_class.proofs.bundle.read_entries.Goals as goal
 
 pub loop-entry-init : goal.loop-entry-init
-loop-entry-init c = (([], ArePaths-none c.new-paths.result c.new-paths.ensures.empty, [], c.new-views.ensures.items, entries_begin c.args.bytes.now c.args.count c.args.at), c.requires)
+loop-entry-init c = (([], ArePaths-none c.new-paths.result c.new-paths.ensures.empty, [], c.new-views.ensures, entries_begin c.args.bytes.now c.args.count c.args.at), c.requires)
 
 pub loop-entry-preserved : goal.loop-entry-preserved
 loop-entry-preserved c =
     let so_far = c.loop-entry.invariant.0 in
     let next = entries_go_on c.args.bytes.now c.args.count c.loop-entry.entry c.loop-entry.ahead so_far.0 so_far.2 c.in_ok-view.view c.in_ok-view.after c.read_entry.new.paths _ c.loop-entry-test.true (c.in_ok-view.ensures.value so_far.0 so_far.1) so_far.4 in
-    let views = views_more so_far.2 c.in_ok-view.view c.loop-entry.views.items c.push_view.new.views.items so_far.3 c.in_ok-push_view.ensures in
+    let views = views_more so_far.2 c.in_ok-view.view c.loop-entry.views c.push_view.new.views so_far.3 c.in_ok-push_view.ensures in
     ((next.0, next.1, so_far.2 ++ c.in_ok-view.view ∷ [], views, next.2), c.in_ok-view.ensures.inside)
 
 pub returns-in_err-view-clause-value : goal.returns-in_err-view-clause-value
@@ -26,4 +26,4 @@ pub returns-clause-value : goal.returns-clause-value
 returns-clause-value c =
     let so_far = c.loop-entry.invariant.0 in
     let done = rows_done (entry_at c.args.bytes.now) so_far.2 c.args.count c.loop-entry.entry (entries_before c.loop-entry.ahead so_far.0) _ c.loop-entry-test.false so_far.4 in
-    rw c.from.ensures (so_far.2, so_far.0, c.loop-entry.ahead.room, so_far.3, done)
+    (so_far.2, so_far.0, c.loop-entry.ahead.room, so_far.3, done)

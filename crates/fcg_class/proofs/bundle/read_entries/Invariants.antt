@@ -10,5 +10,5 @@ use Rattle.fcg_class.proofs.bundle.read_entries.Given as goal
 
 abbrev pub invariant-loop-entry : goal.invariant-loop-entry
 invariant-loop-entry l =
-    ((before : List (List ℕ)) × ArePaths l.paths before × (front : List (Option View)) × (l.views.items ≡ flat_map some_of front) × (with_front front (rows (entry_at l.bytes) (l.count - l.entry) l.entry (entries_before l.ahead before)) ≡ rows (entry_at l.bytes) l.count 0 (before_first l.at)))
+    ((before : List (List ℕ)) × ArePaths l.paths before × (front : List (Option View)) × (l.views ≡ flat_map some_of front) × (with_front front (rows (entry_at l.bytes) (l.count - l.entry) l.entry (entries_before l.ahead before)) ≡ rows (entry_at l.bytes) l.count 0 (before_first l.at)))
     × (l.ahead.at ≤ length l.bytes)

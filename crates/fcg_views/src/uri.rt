@@ -1,5 +1,5 @@
 //! URIs of methods.
-ghost use Rattle.std.specs.Prelude.{◌≡◌, ◌++◌, ◌+◌, ◌<◌, ◌^◌, ℕ, List, length, codes, OnOk, IfOk, IfSome, Result, Ok};
+ghost use Rattle.std.specs.Prelude.{◌≡◌, ◌++◌, ◌+◌, ◌<◌, ◌^◌, ℕ, List, length, OnOk, IfOk, IfSome, Result, Ok};
 ghost use Rattle.std.specs.Option.{option_map};
 ghost use Rattle.fcg_grammar.specs.Reading.{seen, Gives};
 ghost use Rattle.fcg_views.specs.Coordinate.{IsCoordinate};
@@ -115,17 +115,6 @@ fn tell(
     }
 }
 
-// The text of a coordinate, of what stands before and after the `$` in its place.
-fn join_coordinate(alloc: Global, front: &[u8], version: &[u8]) -> Result<Vec<u8>, AllocError>
-    ensures { IfOk result (λ text. text.items ≡ front.now ++ (codes ":" ++ version.now)) }
-{
-    let mut text = Vec::new(alloc);
-    text.extend_from_slice(front)?;
-    text.push(b':')?;
-    text.extend_from_slice(version)?;
-    Ok(text)
-}
-
 // The coordinate that stands in a URI as these bytes.
 #[tactic(auto, unfolding(crate::specs::Uri::coordinate_in))]
 fn read_coordinate(alloc: Global, text: &[u8]) -> Result<Coordinate, ReadError<UriFault>>
@@ -135,8 +124,11 @@ fn read_coordinate(alloc: Global, text: &[u8]) -> Result<Coordinate, ReadError<U
     if version.contains(&b':') {
         return Err(ReadError::Fault(fault_at(COORDINATE_AT, UriRule::Coordinate)));
     }
-    let text = join_coordinate(alloc, front, version)?;
-    tell(Coordinate::parse(alloc, &text))
+    let mut joined = Vec::new(alloc);
+    joined.extend_from_slice(front)?;
+    joined.push(b':')?;
+    joined.extend_from_slice(version)?;
+    tell(Coordinate::parse(alloc, &joined))
 }
 
 // The part that goes up to a byte, and what follows that byte: it begins at a place of a text that has so many bytes.

@@ -4,7 +4,7 @@ use crate::items::{Fields, Methods, Names, Sites};
 use crate::name::Name;
 
 /// What a class file says of its type (JVMS 4.1). The names are the bytes of the constant pool.
-#[derive(Clone, Drop, PartialEq)]
+#[derive(Drop, PartialEq)]
 pub struct View {
     /// The binary name of the type in its internal form, as `java/lang/Object`.
     pub name: Name,
@@ -19,7 +19,7 @@ pub struct View {
 }
 
 /// A field that a type declares (JVMS 4.5).
-#[derive(Clone, Drop, PartialEq)]
+#[derive(Drop, PartialEq)]
 pub struct Field {
     pub name: Name,
     /// The field descriptor (JVMS 4.3.2).
@@ -29,7 +29,7 @@ pub struct Field {
 }
 
 /// A method that a type declares (JVMS 4.6), with the call sites of its code.
-#[derive(Clone, Drop, PartialEq)]
+#[derive(Drop, PartialEq)]
 pub struct Method {
     pub name: Name,
     /// The method descriptor (JVMS 4.3.3).
@@ -40,7 +40,7 @@ pub struct Method {
 }
 
 /// An instruction of a method's code that names a method, a field or a type.
-#[derive(Clone, Drop, PartialEq)]
+#[derive(Drop, PartialEq)]
 pub struct Site {
     /// The place of the instruction's opcode in the code, in bytes.
     pub pc: u16,
@@ -50,7 +50,7 @@ pub struct Site {
 
 /// What a site names: an owner, and a member of it by name and descriptor. A site that names a type alone has an
 /// empty name and an empty descriptor.
-#[derive(Clone, Drop, PartialEq)]
+#[derive(Drop, PartialEq)]
 pub struct Ref {
     pub owner: Name,
     /// Whether the constant is an InterfaceMethodref (JVMS 4.4.2).

@@ -261,11 +261,7 @@ fn read_body(
 }
 
 // The view of rows. A module has none.
-fn show(
-    alloc: Global,
-    pool: &Pool<'_>,
-    rows: &ViewRows,
-) -> Result<Option<NumberedView>, NoMemory>
+fn show(alloc: Global, pool: &Pool<'_>, rows: &ViewRows) -> Result<Option<NumberedView>, NoMemory>
     ensures { IfOk result (λ view. view ≡ shown (view_in pool.now rows.now)) }
 {
     if rows.flags < 0x8000 {

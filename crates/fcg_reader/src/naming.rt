@@ -11,7 +11,10 @@ ghost use Rattle.fcg_reader.specs.Internal.Naming.{IsNumberOf, NamesMore};
 use crate::kept::{find_kept, keep, nothing_kept};
 use crate::rows::{FieldRow, MethodRow, RefRow, SiteRow, ViewRows};
 use fcg_pool::Pool;
-use fcg_views::{Field, Fields, Method, Methods, Name, NameList, Names, NoMemory, NumberedView, Ref, Site, Sites, View};
+use fcg_views::{
+    Field, Fields, Method, Methods, Name, NameList, Names, NoMemory, NumberedView, Ref, Site,
+    Sites, View,
+};
 use std::alloc::{AllocError, Global};
 use std::marker::Model;
 

@@ -3,6 +3,7 @@ ghost use Rattle.std.specs.Prelude.{◌≡◌, ◌≤◌, ◌<◌, ◌^◌, ◌�
 ghost use Rattle.std.specs.List.{All};
 ghost use Rattle.fcg_grammar.specs.Reading.{seen, Gives};
 ghost use Rattle.fcg_grammar.specs.Rows.{rows};
+ghost use Rattle.fcg_views.specs.declared.view.View.{View};
 ghost use Rattle.fcg_views.specs.Valid.{IsValid, left_of, name_count};
 ghost use Rattle.fcg_class.specs.Internal.Entries.{error_in_entry, entries_before, before_first, ArePaths, GivesEntry, GivesEntries};
 ghost use Rattle.fcg_class.specs.Bundle.{Content, broken, some_of, shown, sites_in, held, path_at, body_at, entry_at, entries_of, bundle_of, is_jar};

@@ -13,7 +13,6 @@ ghost use Rattle.fcg_classfile.specs.Breaks.Fault.{in_pool};
 ghost use Rattle.fcg_classfile.specs.Breaks.Pool.{pool_at};
 ghost use Rattle.fcg_classfile.specs.Breaks.Class.{header_kept, type_at, super_at, interface_at, interfaces_at, rows_or_none, members_at, body_at, shown, class_of};
 ghost use Rattle.fcg_reader.specs.Internal.Rows.{text_in, field_in, method_in, view_in};
-ghost use Rattle.fcg_reader.specs.Internal.Calls.{all_unfinished_in};
 ghost use Rattle.fcg_reader.specs.Internal.Class.{rows_said, rows_seen, rows_before, rows_ended, GivesRows};
 
 use crate::attributes::pass_named;
@@ -261,11 +260,7 @@ fn read_body(
 }
 
 // The view of rows. A module has none.
-fn show(
-    alloc: Global,
-    pool: &Pool<'_>,
-    rows: &ViewRows,
-) -> Result<Option<NumberedView>, NoMemory>
+fn show(alloc: Global, pool: &Pool<'_>, rows: &ViewRows) -> Result<Option<NumberedView>, NoMemory>
     ensures { IfOk result (λ view. view ≡ shown (view_in pool.now rows.now)) }
 {
     if rows.flags < 0x8000 {

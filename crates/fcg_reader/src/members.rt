@@ -112,11 +112,7 @@ fn parts_or_none(alloc: Global, code: Option<MethodCode>) -> (SiteRows, CodeCall
 }
 
 // The method that a row declares, with this code.
-fn make_method(
-    alloc: Global,
-    declared: &Declared<'_>,
-    code: Option<MethodCode>,
-) -> Unfinished
+fn make_method(alloc: Global, declared: &Declared<'_>, code: Option<MethodCode>) -> Unfinished
     ensures value { (pool : Entries) → AreTextsOf pool declared.now → unfinished_in pool result ≡ unfinished (declared_of declared.now) (code_of pool code) }
     ensures name { result.0.name ≡ declared.now.name.index }
     ensures desc { result.0.desc ≡ declared.now.desc.index }

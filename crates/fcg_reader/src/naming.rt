@@ -4,14 +4,17 @@ ghost use Rattle.std.specs.Prelude.{◌≡◌, ◌≤◌, ◌+◌, ◌∷◌, []
 ghost use Rattle.std.specs.List.{flat_map};
 ghost use Rattle.std.specs.Option.{option_map};
 ghost use Rattle.fcg_grammar.specs.Number.{part};
-ghost use Rattle.fcg_views.specs.NamesIn.{names_by, names_in, names_of_ref, names_of_site, names_of_super, names_of_field, names_of_method};
+ghost use Rattle.fcg_views.specs.NamesIn.{names_in, names_of_ref, names_of_site, names_of_super, names_of_field, names_of_method};
 ghost use Rattle.fcg_reader.specs.Internal.Rows.{text_in, ref_in, site_in, sites_in, field_in, method_in, view_in};
 ghost use Rattle.fcg_reader.specs.Internal.Naming.{IsNumberOf, NamesMore};
 
 use crate::kept::{find_kept, keep, nothing_kept};
 use crate::rows::{FieldRow, MethodRow, RefRow, SiteRow, ViewRows};
 use fcg_pool::Pool;
-use fcg_views::{Field, Fields, Method, Methods, Name, NameList, Names, NoMemory, NumberedView, Ref, Site, Sites, View};
+use fcg_views::{
+    Field, Fields, Method, Methods, Name, NameList, Names, NoMemory, NumberedView, Ref, Site,
+    Sites, View,
+};
 use std::alloc::{AllocError, Global};
 use std::marker::Model;
 

@@ -1,5 +1,5 @@
 -- What the rows of a class file stand for, by the constant pool that their indexes are of.
-use Rattle.std.specs.Prelude.{ℕ, List, [], map, Option, Result, Ok, Err}
+use Rattle.std.specs.Prelude.{ℕ, List, [], map, Result, Ok, Err}
 use Rattle.std.specs.Option.{option_map}
 use Rattle.fcg_views.specs.declared.view.View.{View}
 use Rattle.fcg_views.specs.declared.view.Field.{Field}

@@ -1,4 +1,4 @@
-use Rattle.std.proofs.Common.{◌≡◌, [], ap, subst, sym, ◌∙◌}
+use Rattle.std.proofs.Common.{[], ap, subst, sym, ◌∙◌}
 use Rattle.fcg_grammar.specs.Number.{part}
 use Rattle.fcg_reader.specs.Internal.Naming.{Named, IsNumberOf, NamesMore}
 use Rattle.fcg_reader.proofs.NamingLemmas.{names_kept, named_added}

@@ -8,3 +8,5 @@ pub mod MarkLaws
 pub mod KeyLists
 pub mod NumberLaws
 pub mod KnownMarks
+pub mod CollectedLaws
+pub mod PartNameLaws

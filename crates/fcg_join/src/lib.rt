@@ -6,6 +6,7 @@
 
 mod laws;
 mod names;
+mod part_names;
 mod winners;
 
 pub use laws::{

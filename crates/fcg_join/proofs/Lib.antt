@@ -10,3 +10,4 @@ pub mod NumberLaws
 pub mod KnownMarks
 pub mod CollectedLaws
 pub mod PartNameLaws
+pub mod GraphRows

@@ -4,4 +4,6 @@ pub mod TypeTables
 pub mod Names
 pub mod Parts
 pub mod PartNames
+pub mod PartRows
+pub mod TypeHeads
 pub mod Internal

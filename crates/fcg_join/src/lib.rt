@@ -4,6 +4,7 @@
 //! on the rules of the analysis, and on links by numbers.
 #![tactic(auto)]
 
+mod heads;
 mod laws;
 mod names;
 mod part_names;

@@ -1,10 +1,24 @@
 -- Lists that are made one element after the other.
 use Rattle.std.proofs.Common.{◌≡◌, ℕ, zero, suc, ◌+◌, ◌<◌, ◌≤◌, List, [], ◌∷◌, ◌++◌, length, get_or, take, drop, refl, sym, ap, ◌∙◌, arith}
-use Rattle.std.specs.Prelude.{map, All, slice_get, Some}
+use Rattle.std.specs.Prelude.{map, flat_map, All, slice_get, Some}
 use Rattle.std.specs.List.{AllByRecursion, range_with_len}
 use Rattle.std.proofs.lemmas.List.{append-nil, append_assoc, drop_more, drop_all, take_more, take_all, map-append, get_or_default, same_lists}
 use Rattle.std.proofs.lemmas.List.FromFn.{length-map-range_with_len, get_or-map-range_with_len, map-range_with_len_more}
 use Rattle.fcg_join.specs.Internal.Collected.{collected}
+
+-- the elements of a list from a place on
+module _ {X : Type 0} (xs : List X) where
+  abbrev pub From : ℕ → List X → Type 0
+  From i ys = (j : ℕ) → slice_get xs (i + j) ≡ slice_get ys j
+
+  pub later : (i : ℕ) (y : X) (ys : List X) → From i (y ∷ ys) → From (i + 1) ys
+  later i y ys h j = (let e : (i + 1) + j ≡ i + suc j = omega arith in ap (slice_get xs) e ∙ h (suc j))
+
+  pub here : (i : ℕ) (y : X) (ys : List X) → From i (y ∷ ys) → slice_get xs i ≡ Some y
+  here i y ys h = (let e : i ≡ i + 0 = omega arith in ap (slice_get xs) e ∙ h 0)
+
+  pub from_start : From 0 xs
+  from_start j = (let e : 0 + j ≡ j = omega arith in ap (slice_get xs) e)
 
 module _ {X Y : Type 0} (f : ℕ → X → List Y) where
   -- one element more
@@ -68,3 +82,16 @@ all_picked {X} P xs none (j ∷ ks) a b = at (all_picked P xs none ks a (λ q e 
     at : All P (map (λ k. get_or xs k none) ks) → (k : ℕ) (d : X) → k < length (map (λ k. get_or xs k none) (j ∷ ks)) → P (get_or (map (λ k. get_or xs k none) (j ∷ ks)) k d)
     at r zero d l = a j none (b 0 0 (omega arith))
     at r (suc k) d l = r k d (omega arith)
+
+module _ {X Y : Type 0} (f : X → List Y) where
+  -- what each element gives, where its place isn't asked
+  pub flat_next : (xs : List X) (i : ℕ) (x : X) (old new all : List Y) → i < length xs → x ≡ get_or xs i x → new ≡ old ++ f x
+      → old ++ flat_map f (drop i xs) ≡ all → new ++ flat_map f (drop (i + 1) xs) ≡ all
+  flat_next xs i x old new all l at e h =
+      ap (λ ys. ys ++ flat_map f (drop (i + 1) xs)) e
+      ∙ append_assoc old (f x) (flat_map f (drop (i + 1) xs))
+      ∙ ap (λ ys. old ++ ys) (sym (ap (flat_map f) (drop_more xs i x l) ∙ ap (λ y. f y ++ flat_map f (drop (i + 1) xs)) (sym at)))
+      ∙ h
+
+  pub flat_all : (xs : List X) (i : ℕ) (old all : List Y) → length xs ≤ i → old ++ flat_map f (drop i xs) ≡ all → old ≡ all
+  flat_all xs i old all l h = sym (append-nil old) ∙ ap (λ ys. old ++ ys) (sym (ap (flat_map f) (drop_all i xs l))) ∙ h

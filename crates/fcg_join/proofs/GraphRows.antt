@@ -9,7 +9,7 @@ use Rattle.fcg_grammar.proofs.TableLaws.{table_among, at_place}
 use Rattle.fcg_views.specs.declared.view.View.{View}
 use Rattle.fcg_partial.specs.Graph.{StoredType}
 use Rattle.fcg_partial.specs.Views.{graph_of, names_of, refs_of, type_row, super_number_of, mentions, names_of_view, names_of_ref, names_of_super, targets_of}
-use Rattle.fcg_partial.specs.Accessors.{HasType, row_of_type}
+use Rattle.fcg_partial.specs.Accessors.{HasType, HasInterface, row_of_type, type_in, no_type}
 use Rattle.fcg_partial.specs.declared.row.TypeRow.{TypeRow}
 use Rattle.fcg_partial.specs.Parts.{PartShown}
 use Rattle.fcg_analysis.specs.NamesAndFlags.{same, has}
@@ -51,6 +51,24 @@ module _ (p : PartShown) (k : ℕ) (v : View) (h : HasView p k v) where
           let b : length t.fields ≡ length v.fields = length-map v.fields (Rattle.fcg_partial.specs.Views.field_row nm) in
           let c : length t.methods ≡ length v.methods = length-map v.methods (Rattle.fcg_partial.specs.Views.method_row nm (refs_of nm p.views)) in
           λ i. record { name = place nm v.name; flags = v.flags; superclass = super_number_of nm v.superclass; interfaces = a i; fields = b i; methods = c i }
+
+  type_there : HasType (graph_of p.views) k (type_row (part_names p) (refs_of (part_names p) p.views) v)
+  unfolding graph_of
+  type_there = slice_get-map (type_row (names_of p.views) (refs_of (names_of p.views) p.views)) p.views k ∙ ap (option_map (type_row (names_of p.views) (refs_of (names_of p.views) p.views))) h
+
+  pub interface_within : (j : ℕ) → j < length v.interfaces → j < length (type_in (graph_of p.views) k).interfaces
+  interface_within j l =
+      let t = type_row (part_names p) (refs_of (part_names p) p.views) v in
+      let e : type_in (graph_of p.views) k ≡ t = get_or_from_slice_get (graph_of p.views).types k t no_type type_there in
+      let m : length t.interfaces ≡ length v.interfaces = length-map v.interfaces (place (part_names p)) in
+      subst (λ (n : ℕ). j < n) (sym m ∙ sym (ap (λ (u : StoredType). length u.interfaces) e)) l
+
+  pub interface_is : (j : ℕ) (n : List ℕ) → slice_get v.interfaces j ≡ Some n → (found : ℕ) → ((m : ℕ) → HasInterface (graph_of p.views) k j m → found ≡ m) → found ≡ place (part_names p) n
+  interface_is j n e found each = each (place (part_names p) n) (
+    type_row (part_names p) (refs_of (part_names p) p.views) v,
+    type_there,
+    slice_get-map (place (part_names p)) v.interfaces j ∙ ap (option_map (place (part_names p))) e,
+  )
 
   -- the graph has the names that the view has
   pub named : (x : List ℕ) → Among x (names_of_view v) → Among x (part_names p)

@@ -11,3 +11,6 @@ pub mod KnownMarks
 pub mod CollectedLaws
 pub mod PartNameLaws
 pub mod GraphRows
+pub mod ZipLaws
+pub mod HeadLaws
+pub mod LinkLaws

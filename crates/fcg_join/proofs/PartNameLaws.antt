@@ -12,55 +12,42 @@ use Rattle.fcg_join.specs.declared.part_names.NamePlace.{NamePlace}
 use Rattle.fcg_join.specs.Names.{text_at, AreNumbered}
 use Rattle.fcg_join.specs.PartNames.{part_names, all_names, set_names, names_by_number, places_in, IsNamePlace, name_there, no_part, no_place}
 use Rattle.fcg_join.specs.Internal.Collected.{collected}
-use Rattle.fcg_join.proofs.CollectedLaws.{map_twice, all_both, all_ranged, by_places, same_map, all_picked}
+use Rattle.fcg_join.proofs.CollectedLaws.{From, later, here, from_start, map_twice, all_both, all_ranged, by_places, same_map, all_picked}
 
 module _ (parts : List PartShown) where
-  -- the parts from number i on
-  abbrev pub From : ℕ → List PartShown → Type 0
-  From i ps = (j : ℕ) → slice_get parts (i + j) ≡ slice_get ps j
-
-  pub later : (i : ℕ) (p : PartShown) (ps : List PartShown) → From i (p ∷ ps) → From (i + 1) ps
-  later i p ps h j = (let e : (i + 1) + j ≡ i + suc j = omega arith in ap (slice_get parts) e ∙ h (suc j))
-
-  pub here : (i : ℕ) (p : PartShown) (ps : List PartShown) → From i (p ∷ ps) → slice_get parts i ≡ Some p
-  here i p ps h = (let e : i ≡ i + 0 = omega arith in ap (slice_get parts) e ∙ h 0)
-
-  pub from_start : From 0 parts
-  from_start j = (let e : 0 + j ≡ j = omega arith in ap (slice_get parts) e)
-
-  pub names_at_places : (i : ℕ) (ps : List PartShown) → From i ps → map (name_there parts) (collected places_in i ps) ≡ all_names ps
+  pub names_at_places : (i : ℕ) (ps : List PartShown) → From parts i ps → map (name_there parts) (collected places_in i ps) ≡ all_names ps
   unfolding all_names
   names_at_places i [] h = refl
   names_at_places i (p ∷ ps) h =
       map-append (name_there parts) (places_in i p) (collected places_in (i + 1) ps)
       ∙ ap (λ ns. ns ++ map (name_there parts) (collected places_in (i + 1) ps)) own
-      ∙ ap (λ ns. part_names p ++ ns) (names_at_places (i + 1) ps (later i p ps h))
+      ∙ ap (λ ns. part_names p ++ ns) (names_at_places (i + 1) ps (later parts i p ps h))
     where
       mk : ℕ → NamePlace
       mk k = record { part = i; number = k }
 
       part_is : get_or parts i no_part ≡ p
-      part_is = get_or_from_slice_get parts i p no_part (here i p ps h)
+      part_is = get_or_from_slice_get parts i p no_part (here parts i p ps h)
 
       own : map (name_there parts) (places_in i p) ≡ part_names p
       own = map_twice (name_there parts) mk (range_with_len 0 (length (part_names p)))
           ∙ by_places (part_names p) (λ k. name_there parts (mk k)) (λ k d l. ap (λ q. get_or (part_names q) k []) part_is ∙ get_or_default (part_names p) k [] d l)
 
-  pub places_there : (i : ℕ) (ps : List PartShown) → From i ps → AllByRecursion (IsNamePlace parts) (collected places_in i ps)
+  pub places_there : (i : ℕ) (ps : List PartShown) → From parts i ps → AllByRecursion (IsNamePlace parts) (collected places_in i ps)
   places_there i [] h = tt
   places_there i (p ∷ ps) h =
       all_both (IsNamePlace parts) (places_in i p) (collected places_in (i + 1) ps)
-      (all_ranged mk (IsNamePlace parts) 0 (length (part_names p)) (λ k l. record { part = p; part_is = here i p ps h; within = omega arith }))
-      (places_there (i + 1) ps (later i p ps h))
+      (all_ranged mk (IsNamePlace parts) 0 (length (part_names p)) (λ k l. record { part = p; part_is = here parts i p ps h; within = omega arith }))
+      (places_there (i + 1) ps (later parts i p ps h))
     where
       mk : ℕ → NamePlace
       mk k = record { part = i; number = k }
 
   pub all_places : (places : List NamePlace) → places ≡ collected places_in 0 parts → All (IsNamePlace parts) places
-  all_places places e = subst (λ (ps : List NamePlace). All (IsNamePlace parts) ps) (sym e) (All-from_recursion (IsNamePlace parts) (collected places_in 0 parts) (places_there 0 parts from_start))
+  all_places places e = subst (λ (ps : List NamePlace). All (IsNamePlace parts) ps) (sym e) (All-from_recursion (IsNamePlace parts) (collected places_in 0 parts) (places_there 0 parts (from_start parts)))
 
   pub all_texts : (places : List NamePlace) (texts : List (List ℕ)) → places ≡ collected places_in 0 parts → texts ≡ map (name_there parts) places → texts ≡ all_names parts
-  all_texts places texts e f = f ∙ ap (map (name_there parts)) e ∙ names_at_places 0 parts from_start
+  all_texts places texts e f = f ∙ ap (map (name_there parts)) e ∙ names_at_places 0 parts (from_start parts)
 
   pub picked_names : (places picked : List NamePlace) (texts : List (List ℕ)) (ks : List ℕ) → texts ≡ map (name_there parts) places → All (λ k. k < length places) ks
       → picked ≡ map (λ k. get_or places k no_place) ks → map (name_there parts) picked ≡ map (text_at texts) ks

@@ -6,4 +6,5 @@ pub mod Parts
 pub mod PartNames
 pub mod PartRows
 pub mod TypeHeads
+pub mod TypeNumbers
 pub mod Internal

@@ -1,5 +1,5 @@
 //! Types by numbers, without the lists of interfaces and of methods.
-ghost use Rattle.std.specs.Prelude.{◌≡◌, ◌<◌, ◌^◌, ◌++◌, ◌||◌, ℕ, List, None, length, map, option_map, slice_index_or, IfOk, OnOk, IfSome, if◌then◌else◌};
+ghost use Rattle.std.specs.Prelude.{◌≡◌, ◌<◌, ◌^◌, ◌++◌, ◌||◌, ℕ, List, None, Some, slice_get, length, map, option_map, slice_index_or, IfOk, OnOk, IfSome, if◌then◌else◌};
 ghost use Rattle.fcg_grammar.specs.Table.{place};
 ghost use Rattle.fcg_views.specs.declared.view.View.{View};
 ghost use Rattle.fcg_analysis.specs.NamesAndFlags.{same, has};
@@ -72,6 +72,23 @@ pub(crate) fn type_name(part: &Part, k: u32) -> &[u8]
     ensures { (v : View) → HasView part.now k v → result.now ≡ v.name }
 {
     graph(part).name_at(load_type(part, k).name)
+}
+
+// How many interfaces a type has.
+pub(crate) fn count_interfaces(part: &Part, k: u32) -> u16
+    requires { k < length part.now.views }
+    ensures { (v : View) → HasView part.now k v → result ≡ length v.interfaces }
+{
+    load_type(part, k).interfaces
+}
+
+// The number of the name of an interface of a type.
+pub(crate) fn load_interface(part: &Part, k: u32, j: u16) -> u32
+    requires { (v : View) × HasView part.now k v × (j < length v.interfaces) }
+    ensures value { (v : View) (n : List ℕ) → HasView part.now k v → slice_get v.interfaces j ≡ Some n → result ≡ place (part_names part.now) n }
+    ensures below { result < length (part_names part.now) }
+{
+    graph(part).interface_at(k, j)
 }
 
 // How many types a part has.

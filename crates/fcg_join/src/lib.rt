@@ -5,9 +5,11 @@
 #![tactic(auto)]
 
 mod heads;
+mod known;
 mod laws;
 mod names;
 mod part_names;
+mod type_links;
 mod winners;
 
 pub use laws::{

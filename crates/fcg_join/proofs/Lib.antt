@@ -14,3 +14,4 @@ pub mod GraphRows
 pub mod ZipLaws
 pub mod HeadLaws
 pub mod LinkLaws
+pub mod JoinLaws

@@ -1,14 +1,19 @@
 //! The winners among the types of parts, and the known types.
-ghost use Rattle.std.specs.Prelude.{◌≡◌, ◌<◌, ◌^◌, length, map, not, IfOk, All};
+ghost use Rattle.std.specs.Prelude.{◌≡◌, ◌<◌, ◌^◌, List, length, map, not, IfOk, All};
+ghost use Rattle.std.specs.List.{IsDistinct};
+ghost use Rattle.fcg_analysis.specs.Declarations.{Placed, is_type};
 ghost use Rattle.fcg_analysis.specs.Types.{winners, known};
 ghost use Rattle.fcg_join.specs.Parts.{placed};
 ghost use Rattle.fcg_join.specs.PartNames.{AreSetNames, set_names};
 ghost use Rattle.fcg_join.specs.TypeNumbers.{AreHeads, FindsFirst, FindsHeads};
+ghost use Rattle.fcg_join.specs.TypeLinks.{HasLinks};
 ghost use Rattle.fcg_join.specs.Winners.{marked};
 
 use crate::heads::{TypeHead, find_heads};
 use crate::part_names::SetNames;
+use crate::type_links::make_links;
 use crate::winners::mark_firsts;
+use fcg_order::{Links, find_order};
 use fcg_partial::Part;
 use std::alloc::{AllocError, Global};
 
@@ -83,4 +88,50 @@ fn find_winners(
     let numbers = collect_head_names(alloc, &heads)?;
     let firsts = mark_firsts(alloc, &numbers, names.places.len())?;
     keep_marked(alloc, &heads, &firsts)
+}
+
+/// The types of names, and the links of types.
+#[derive(Drop)]
+pub struct TypeLinks {
+    /// Of each number of a name the type that has it, if any.
+    pub by_name: Vec<Option<u32>>,
+    /// Of each type the types to which it links.
+    pub links: Links,
+}
+
+// The links of types, of which each has a name of its own.
+pub(crate) fn link_types(
+    alloc: Global,
+    parts: &[Part],
+    names: &SetNames,
+    heads: &[TypeHead],
+) -> Result<TypeLinks, AllocError>
+    requires few { length heads.now < 2 ^ 32 }
+    requires heads { (types : List Placed) × AreHeads parts.now heads.now types }
+    requires names { AreSetNames parts.now names.now }
+    ensures by_name { IfOk result (λ l. FindsHeads heads.now l.by_name.items (length (set_names parts.now))) }
+    ensures links { (types : List Placed) → AreHeads parts.now heads.now types → IsDistinct is_type types → IfOk result (λ l. HasLinks types l.links) }
+{
+    let by_name = index_names(alloc, heads, names.places.len())?;
+    let links = make_links(alloc, parts, &names.numbers, heads, by_name.as_slice())?;
+    Ok(TypeLinks { by_name, links })
+}
+
+// The known types: the winners that lie on no circle of links.
+pub(crate) fn find_known(
+    alloc: Global,
+    parts: &[Part],
+    names: &SetNames,
+) -> Result<Vec<TypeHead>, AllocError>
+    requires few { length parts.now < 2 ^ 32 }
+    requires types { length (placed parts.now) < 2 ^ 32 }
+    requires names { AreSetNames parts.now names.now }
+    ensures { IfOk result (λ heads. AreHeads parts.now heads.items (known (placed parts.now))) }
+{
+    let winners = find_winners(alloc, parts, names)?;
+    let heads = winners.as_slice();
+    let linked = link_types(alloc, parts, names, heads)?;
+    let order = find_order(alloc, &linked.links)?;
+    let sound = turn_marks(alloc, order.circular.as_slice())?;
+    keep_marked(alloc, heads, sound.as_slice())
 }

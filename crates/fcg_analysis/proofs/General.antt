@@ -4,3 +4,5 @@ pub mod Finding
 pub mod Ranges
 pub mod Sorted
 pub mod Walking
+pub mod Places
+pub mod Numbered

@@ -24,3 +24,6 @@ pub mod ChainWalks
 pub mod DeclaredSearch
 pub mod HandingLaws
 pub mod TableLaws
+pub mod NodePlaces
+pub mod DeclaredPlaces
+pub mod BelowChains

@@ -58,7 +58,7 @@ above_from_name types d t u c h =
 pub name_from_above : (types : List Placed) (t u : Placed) → Contains (above types t) u → is_above types t u ≡ true
 name_from_above types t u c = any_in (is_type u) (above types t) u (IsIn-from_Contains _ u c) (is_type_self u)
 
-not_circular : (types : List Placed) → IsDistinct is_type types → (t : Placed) → Contains types t → (Walk links types t t → ⊥) → is_circular types t ≡ false
+pub not_circular : (types : List Placed) → IsDistinct is_type types → (t : Placed) → Contains types t → (Walk links types t t → ⊥) → is_circular types t ≡ false
 unfolding above
 not_circular types d t c a = false_from_ne_true _ (λ h. a (walk_from_led links types t t (above_from_name types d t t c h)))
 
@@ -202,7 +202,7 @@ unlinked_by_name types d t = ap (λ f. list_any f (names_of t)) (λ i n. not (li
 abbrev mentions : List Placed → List ℕ → Placed → Bool
 mentions types n t = is_named n t || (is_none (type_named types n) && contains n (names_of t))
 
-below_put : (types : List Placed) (d : Placed) (n : List ℕ) → is_below types d n ≡ (same n object_name || list_any (mentions types n) (d ∷ above types d))
+pub below_put : (types : List Placed) (d : Placed) (n : List ℕ) → is_below types d n ≡ (same n object_name || list_any (mentions types n) (d ∷ above types d))
 unfolding is_below
 below_put types d n =
     or_assoc (same n object_name) (list_any (is_named n) (d ∷ above types d)) (is_none (type_named types n) && list_any (λ u. contains n (names_of u)) (d ∷ above types d))

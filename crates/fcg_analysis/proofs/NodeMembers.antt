@@ -1,25 +1,29 @@
 -- Nodes are methods of types, and a type declares one of a signature at most.
-use Rattle.std.proofs.Common.{◌≡◌, ℕ, suc, ◌+◌, ◌<◌, List, [], ◌∷◌, ◌++◌, length, refl, sym, ap, subst, ◌∙◌, inl, inr, arith}
-use Rattle.std.specs.Prelude.{Bool, true, false, ◌&&◌, filter, map, Option, Some, None, Contains, is_some}
+use Rattle.std.proofs.Common.{◌≡◌, ℕ, zero, suc, ◌+◌, ◌<◌, List, [], ◌∷◌, ◌++◌, length, take, drop, refl, sym, ap, subst, ◌∙◌, inl, inr, arith}
+use Rattle.std.specs.Prelude.{Bool, true, false, not, ◌&&◌, filter, find, map, slice_get, All, Option, Some, None, Contains, is_some}
 use Rattle.std.specs.List.{list_any, IsDistinct, AllByRecursion}
 use Rattle.std.specs.Cmp.{both_ways}
 use Rattle.std.specs.Cmp.Lexicographic.{bytes_decides, nat_list_eq_equiv}
 use Rattle.std.proofs.lemmas.Bool.{and_from}
 use Rattle.std.proofs.lemmas.Bool.Decides.{Decides-eqb}
 use Rattle.std.proofs.lemmas.Grind.{flat_map-append}
-use Rattle.std.proofs.lemmas.List.{append-nil}
-use Rattle.std.proofs.lemmas.List.Elements.{filter-append}
+use Rattle.std.proofs.lemmas.List.{append-nil, length-map, take_at, drop_at, drop-drop}
+use Rattle.std.proofs.lemmas.List.Elements.{filter-append, All-contains}
+use Rattle.std.proofs.lemmas.List.Sums.{sum_by-cons}
 use Rattle.fcg_views.specs.declared.view.Method.{Method}
-use Rattle.fcg_views.specs.Valid.{is_alike}
+use Rattle.fcg_views.specs.Valid.{is_alike, IsValid}
 use Rattle.fcg_analysis.specs.NamesAndFlags.{same}
-use Rattle.fcg_analysis.specs.Declarations.{Placed, Signature, signature_of, is_type, has_signature}
+use Rattle.fcg_analysis.specs.Declarations.{Placed, Signature, signature_of, is_type, is_named, has_signature}
+use Rattle.fcg_analysis.specs.Types.{winners, known, is_circular}
 use Rattle.fcg_analysis.specs.Nodes.{Node, nodes, nodes_from, is_node, identity, declared}
-use Rattle.fcg_analysis.specs.Laws.Methods.{methods_of, IsMethodNode, IsSingle}
-use Rattle.fcg_analysis.proofs.General.Members.{IsIn, IsIn-from_Contains, Contains-from_IsIn, and_first, and_second, any_in, in_any, filter_in, find_none, find_in, in_map, map_in, in_flat_map, flat_map_in}
+use Rattle.fcg_analysis.specs.Laws.Methods.{methods_of, first_node, AreApart, IsMethodNode, IsSingle}
+use Rattle.fcg_analysis.proofs.General.Members.{IsIn, IsIn-from_Contains, Contains-from_IsIn, and_first, and_second, any_in, in_any, filter_in, in_filter, find_none, find_in, in_map, map_in, in_flat_map, flat_map_in}
+use Rattle.fcg_analysis.proofs.General.Places.{member_at}
 use Rattle.fcg_analysis.proofs.General.Sorted.{in_all}
+use Rattle.fcg_analysis.proofs.NameLaws.{find_type}
 use Rattle.fcg_analysis.proofs.NodeLaws.{Rising, nodes_rise}
 use Rattle.fcg_analysis.proofs.OverrideLaws.{one_of_name, node_member, node_owner}
-use Rattle.fcg_analysis.proofs.WinnerLaws.{is_type_self, is_type_back}
+use Rattle.fcg_analysis.proofs.WinnerLaws.{is_type_self, is_type_back, winner_of, winners_distinct}
 
 -- ---- nodes are methods of types
 
@@ -68,7 +72,7 @@ nodes_joined k (x ∷ xs) ys =
     let e : k + 1 + length xs ≡ k + length (x ∷ xs) = omega arith in
     ap (λ ns. record { number = k; owner = x.0; method = x.1 } ∷ ns) (nodes_joined (k + 1) xs ys ∙ ap (λ n. nodes_from (k + 1) xs ++ nodes_from n ys) e)
 
-length-nodes_from : (k : ℕ) (ps : List (Placed × Method)) → length (nodes_from k ps) ≡ length ps
+pub length-nodes_from : (k : ℕ) (ps : List (Placed × Method)) → length (nodes_from k ps) ≡ length ps
 length-nodes_from k [] = refl
 length-nodes_from k (p ∷ ps) = ap suc (length-nodes_from (k + 1) ps)
 
@@ -225,7 +229,63 @@ pub block : (types : List Placed) → IsDistinct is_type types → (t : Placed) 
 unfolding nodes
 block types d t c = block_from types d t (IsIn-from_Contains types t c) 0
 
-pub single : (types : List Placed) → IsDistinct is_type types → ((t : Placed) → Contains types t → IsDistinct is_alike t.view.methods) → IsSingle types
+-- they are taken out of the nodes
+row_from : (types : List Placed) → IsDistinct is_type types → (x : ℕ) (t : Placed) → slice_get types x ≡ Some t → (k : ℕ)
+    → filter (is_of t) (nodes_from k (methods_of types)) ≡ take (length t.view.methods) (drop (first_node types x) (nodes_from k (methods_of types)))
+unfolding IsDistinct
+row_from [] d x t h k = absurd (cc)
+row_from (u ∷ us) d zero t h k =
+    let same : u ≡ t = cc in
+    let n = after k u in
+    let others : AllByRecursion (λ v. is_type t v ≡ false) us = subst (λ x. AllByRecursion (λ v. is_type x v ≡ false) us) same d.0 in
+    let self : is_type t u ≡ true = subst (λ x. is_type t x ≡ true) (sym same) (is_type_self t) in
+    let long : length (row k u u.view.methods) ≡ length t.view.methods =
+    length-nodes_from k (pairs u) ∙ length-map u.view.methods (λ m. (u, m)) ∙ ap (λ v. length v.view.methods) same in
+    step t u us k
+    ∙ ap (λ ns. filter (is_of t) (row k u u.view.methods) ++ ns) (none_of t us n others)
+    ∙ append-nil (filter (is_of t) (row k u u.view.methods))
+    ∙ row_whole t u k u.view.methods self
+    ∙ sym (take_at (row k u u.view.methods) (nodes_from n (methods_of us)) (length t.view.methods) long)
+    ∙ ap (take (length t.view.methods)) (sym (nodes_joined k (pairs u) (methods_of us)))
+row_from (u ∷ us) d (suc x) t h k =
+    let n = after k u in
+    let i : IsIn t us = IsIn-from_Contains us t (member_at us x t h) in
+    let apart : is_type t u ≡ false = is_type_back t u ∙ in_all (λ v. is_type u v ≡ false) us t d.0 i in
+    let long : length (row k u u.view.methods) ≡ length u.view.methods = length-nodes_from k (pairs u) ∙ length-map u.view.methods (λ m. (u, m)) in
+    let sum : first_node (u ∷ us) (suc x) ≡ length u.view.methods + first_node us x = sum_by-cons (λ v. length v.view.methods) u (take x us) in
+    let rest : drop (first_node (u ∷ us) (suc x)) (nodes_from k (methods_of (u ∷ us))) ≡ drop (first_node us x) (nodes_from n (methods_of us)) =
+    ap (λ j. drop j (nodes_from k (methods_of (u ∷ us)))) sum
+    ∙ sym (drop-drop (first_node us x) (length u.view.methods) (nodes_from k (methods_of (u ∷ us))))
+    ∙ ap (λ ns. drop (first_node us x) (drop (length u.view.methods) ns)) (nodes_joined k (pairs u) (methods_of us))
+    ∙ ap (drop (first_node us x)) (drop_at (row k u u.view.methods) (nodes_from n (methods_of us)) (length u.view.methods) long) in
+    step t u us k
+    ∙ ap (λ ns. ns ++ filter (is_of t) (nodes_from n (methods_of us))) (row_none t u k u.view.methods apart)
+    ∙ row_from us d.1 x t h n
+    ∙ ap (take (length t.view.methods)) (sym rest)
+
+pub row_is_taken : (types : List Placed) (x : ℕ) (t : Placed) → IsDistinct is_type types → slice_get types x ≡ Some t
+    → filter (λ m. is_type t m.owner) (nodes types) ≡ take (length t.view.methods) (drop (first_node types x) (nodes types))
+unfolding nodes
+row_is_taken types x t d h = row_from types d x t h 0
+
+methods_of_row : (t : Placed) (k : ℕ) (ms : List Method) → map (λ m. m.method) (row k t ms) ≡ ms
+methods_of_row t k [] = refl
+methods_of_row t k (m ∷ ms) = ap (λ ns. m ∷ ns) (methods_of_row t (k + 1) ms)
+
+pub row_methods : (types : List Placed) (t : Placed) → IsDistinct is_type types → Contains types t → map (λ m. m.method) (filter (λ m. is_type t m.owner) (nodes types)) ≡ t.view.methods
+row_methods types t d c = let b = block types d t c in ap (map (λ m. m.method)) b.whole ∙ methods_of_row t b.first t.view.methods
+
+-- known types are views
+pub apart_from_valid : (views : List Placed) → All (λ t. IsValid t.view) views → AreApart (known views)
+unfolding known
+apart_from_valid views v t c =
+    let w = in_filter (λ u. not (is_circular (winners views) u)) (winners views) t (IsIn-from_Contains _ t c) in
+    let first : find (is_named t.view.name) views ≡ Some t = sym (winner_of views t.view.name) ∙ find_type (winners views) (winners_distinct views) t.view.name t w.0 (is_type_self t) in
+    let there : Contains views t = Contains-from_IsIn views t (find_in (is_named t.view.name) views t first).0 in
+    let valid : IsValid t.view = All-contains (λ t. IsValid t.view) views t v there in
+    valid.distinct
+
+pub single : (types : List Placed) → IsDistinct is_type types → AreApart types → IsSingle types
 single types d v m n c e same_owner alike =
     let t = m.owner in
     let known = (node_method types m c).0 in

@@ -9,7 +9,7 @@ use Rattle.fcg_analysis.proofs.General.Members.{IsIn, Contains-from_IsIn}
 use Rattle.fcg_analysis.proofs.NodeLaws.{numbers_are_places}
 
 -- a filter of nodes, by their numbers
-numbers_kept : (p : Node → Bool) (q : ℕ → Bool) (ns : List Node) → ((m : Node) → IsIn m ns → q m.number ≡ p m) → filter q (map (λ m. m.number) ns) ≡ map (λ m. m.number) (filter p ns)
+pub numbers_kept : (p : Node → Bool) (q : ℕ → Bool) (ns : List Node) → ((m : Node) → IsIn m ns → q m.number ≡ p m) → filter q (map (λ m. m.number) ns) ≡ map (λ m. m.number) (filter p ns)
 numbers_kept p q [] h = refl
 numbers_kept p q (n ∷ ns) h =
     ap (λ v. cond v (n.number ∷ filter q (map (λ m. m.number) ns)) (filter q (map (λ m. m.number) ns))) (h n (inl refl)) ∙ at (p n) (numbers_kept p q ns (λ m k. h m (inr k)))

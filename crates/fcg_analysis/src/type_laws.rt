@@ -6,7 +6,7 @@ ghost use Rattle.fcg_analysis.specs.Walks.{Walk};
 ghost use Rattle.fcg_analysis.specs.Declarations.{Placed, object_name, is_type, is_object, is_class, is_interface, superclass_names, interface_names, names_of};
 ghost use Rattle.fcg_analysis.specs.Types.{winners, known, type_named, object, links, implements, above, is_above, superclass, uses_unlinked_name, has_gap, chain, is_below};
 ghost use Rattle.fcg_analysis.specs.Laws.Statements.{IsAcyclic};
-ghost use Rattle.fcg_analysis.specs.Laws.ByName.{class_named, interface_passes, links_to, is_below_itself};
+ghost use Rattle.fcg_analysis.specs.Laws.ByName.{class_named, interface_passes, links_to, is_below_itself, is_below_next};
 ghost use Rattle.fcg_analysis.specs.Laws.ChainParts.{IsShared, EndsWith, next_in_chain, chain_of};
 
 /// A view more at the end wins where no earlier view has its name. So the winners stand in the order of the views.
@@ -82,4 +82,16 @@ pub fn chains_are_walked()
 /// Object is the known type of its name, where that is a class.
 pub fn object_is_named()
     ensures { (types : List Placed) → IsDistinct is_type types → object types ≡ class_named types (object_name ∷ []) }
+{}
+
+/// At or below the name of a known class, but Object's, are the types that have the class in their chains, so that a
+/// walk of a chain finds it. At or below Object's name are all types.
+pub fn classes_stand_in_chains()
+    ensures in_chain { (types : List Placed) → IsAcyclic types → IsDistinct is_type types → (d u : Placed) → Contains types d → Contains types u → is_class u ≡ true → same u.view.name object_name ≡ false
+        → is_below types d u.view.name ≡ list_any (is_type u) (chain types d) }
+    ensures walked { (types : List Placed) → IsAcyclic types → IsDistinct is_type types → (d u : Placed) → Contains types d → Contains types u → is_class u ≡ true → same u.view.name object_name ≡ false
+        → is_below types d u.view.name ≡ (is_type u d || is_below_next types u.view.name (next_in_chain types d)) }
+    ensures in_order { (types : List Placed) → IsAcyclic types → IsDistinct is_type types → (u : Placed) → Contains types u → is_class u ≡ true → same u.view.name object_name ≡ false
+        → filter (λ d. is_below types d u.view.name) types ≡ filter (λ d. list_any (is_type u) (chain types d)) types }
+    ensures of_object { (types : List Placed) → filter (λ d. is_below types d object_name) types ≡ types }
 {}

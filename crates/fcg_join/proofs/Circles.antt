@@ -22,7 +22,7 @@ module _ (types : List Placed) (rows : List (List ℕ)) (h : HasLinks types rows
       (p.0, p.1, next_link r.2 ((h.each r.0 p.0 v u r.1 p.1).1 l))
 
   -- a number that a row has is that of a type
-  some_type : (x y : ℕ) → HasLink rows x y → (u : Placed) × HasTypeAt types y u
+  pub some_type : (x y : ℕ) → HasLink rows x y → (u : Placed) × HasTypeAt types y u
   some_type x y l = at types y (subst (λ n. y < n) h.long (h.within.each x y l))
     where
       at : (ts : List Placed) (k : ℕ) → k < length ts → (u : Placed) × HasTypeAt ts k u

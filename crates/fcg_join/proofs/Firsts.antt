@@ -22,7 +22,7 @@ module _ (all : List (List ℕ)) where
   Have : List Placed → Type 0
   Have ts = (t : Placed) → IsIn t ts → Among t.view.name all
 
-  same_type : (t u : Placed) → Among t.view.name all → Among u.view.name all → is_type t u ≡ eqb (name_number all u) (name_number all t)
+  pub same_type : (t u : Placed) → Among t.view.name all → Among u.view.name all → is_type t u ≡ eqb (name_number all u) (name_number all t)
   same_type t u a b = both_ways (is_type t u) (eqb (name_number all u) (name_number all t))
       (λ e. (Decides-eqb (name_number all u) (name_number all t)).1 (ap (place all) (sym ((bytes_decides t.view.name u.view.name).0 e))))
       (λ e. (bytes_decides t.view.name u.view.name).1 (sym (same_names u.view.name t.view.name b a ((Decides-eqb (name_number all u) (name_number all t)).0 e))))

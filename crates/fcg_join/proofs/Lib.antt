@@ -15,3 +15,11 @@ pub mod ZipLaws
 pub mod HeadLaws
 pub mod LinkLaws
 pub mod JoinLaws
+pub mod NodeNumbers
+pub mod RowLaws
+pub mod MentionRows
+pub mod BelowLists
+pub mod SuperNumbers
+pub mod LinkRows
+pub mod WinnerPlaces
+pub mod SuperRows

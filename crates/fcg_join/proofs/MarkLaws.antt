@@ -63,7 +63,7 @@ module _ (types : List Placed) (rows : List (List ℕ)) (h : HasLinks types rows
       let c : HasLink rows x p.0 = (h.each x p.0 t r.0 a p.1).1 (and_first (links t r.0) (mark_of types new r.0) r.2) in
       marked_in new (row rows x) p.0 c.0 c.1 c.2 (sym (mark_at types new p.0 r.0 d m p.1) ∙ and_second (links t r.0) (mark_of types new r.0) r.2)))
 
-  no_circle : IsAcyclic types → (x : ℕ) (t : Placed) → HasTypeAt types x t → IsCircular rows x → ⊥
+  pub no_circle : IsAcyclic types → (x : ℕ) (t : Placed) → HasTypeAt types x t → IsCircular rows x → ⊥
   no_circle acyclic x t a w = acyclic t (has_in types x t a) (walk_by_numbers types rows h t t a a w)
 
   pub filled_upward : (says : Placed → Bool) (old new : List Bool) → IsAcyclic types

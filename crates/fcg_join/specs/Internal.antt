@@ -1,3 +1,4 @@
 -- Words of the contracts of private functions: no public contract needs them.
 pub mod Numbering
 pub mod Collected
+pub mod Tables

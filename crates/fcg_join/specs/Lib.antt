@@ -7,4 +7,7 @@ pub mod PartNames
 pub mod PartRows
 pub mod TypeHeads
 pub mod TypeNumbers
+pub mod NodeTables
+pub mod Places
+pub mod Joined
 pub mod Internal

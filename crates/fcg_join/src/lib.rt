@@ -5,16 +5,31 @@
 #![tactic(auto)]
 
 mod heads;
+mod id;
 mod known;
 mod laws;
 mod names;
 mod part_names;
 mod type_links;
+mod node_laws;
+mod place_laws;
+mod table_laws;
+mod tables;
 mod winners;
 
+pub use id::{MethodId, TypeId};
 pub use laws::{
     below_by_tables, circles_by_numbers, gaps_by_tables, known_by_marks, links_by_names,
     marks_are_upward, upward_tables, winners_by_numbers,
 };
 pub use names::{NameNumbers, number_names};
+pub use node_laws::{
+    declared_by_declarers, declarers_are_nodes, first_nodes_are_sums, found_nodes_have_numbers,
+    owners_are_types, super_methods_by_declarers, super_methods_by_rows,
+};
+pub use place_laws::{links_by_rows, places_are_marked};
+pub use table_laws::{
+    below_by_rows, below_in_order, interfaces_above_by_rows, mentions_are_numbered,
+    rows_are_joined_upward,
+};
 pub use winners::mark_firsts;

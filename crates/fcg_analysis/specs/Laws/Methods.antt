@@ -1,6 +1,8 @@
 -- Nodes as methods of types, and superinterface methods.
-use Rattle.std.specs.Prelude.{◌≡◌, ◌⊎◌, true, false, List, Contains, flat_map, map}
+use Rattle.std.specs.Prelude.{◌≡◌, ◌⊎◌, ℕ, ◌+◌, ◌-◌, ◌<◌, ◌≤◌, true, false, List, Some, Contains, flat_map, map, length, sum_by, take, slice_get}
+use Rattle.std.specs.List.{IsDistinct}
 use Rattle.fcg_views.specs.declared.view.Method.{Method}
+use Rattle.fcg_views.specs.Valid.{is_alike}
 use Rattle.fcg_analysis.specs.Declarations.{Placed, Signature, signature_of, has_signature, is_interface, is_private, is_static}
 use Rattle.fcg_analysis.specs.Types.{above, is_above}
 use Rattle.fcg_analysis.specs.Nodes.{Node, nodes, super_methods, specific}
@@ -17,6 +19,30 @@ pub record IsMethodNode (types : List Placed) (t : Placed) (m : Method) : Type 0
   pub node_in : Contains (nodes types) node
   pub owner : node.owner ≡ t
   pub method : node.method ≡ m
+
+-- how many methods the types have
+abbrev pub method_total : List Placed → ℕ
+method_total types = sum_by (λ t. length t.view.methods) types
+
+-- the number of the first node of the type at a place: how many methods the types before it have
+abbrev pub first_node : List Placed → ℕ → ℕ
+first_node types place = method_total (take place types)
+
+abbrev pub node_at : ℕ → Placed → Method → Node
+node_at n t m = record { number = n; owner = t; method = m }
+
+-- the node at the place n has this number, and is a method of the type whose row of nodes has the number
+pub record IsMethodAt (types : List Placed) (n : ℕ) (m : Node) : Type 0 where
+  pub number : m.number ≡ n
+  pub place : ℕ
+  pub owner : slice_get types place ≡ Some m.owner
+  pub from' : first_node types place ≤ n
+  pub until : n < first_node types place + length m.owner.view.methods
+  pub method : slice_get m.owner.view.methods (n - first_node types place) ≡ Some m.method
+
+-- no type declares two methods of one name and descriptor, as no class file does (JVMS 4.6)
+abbrev pub AreApart : List Placed → Type 0
+AreApart types = (t : Placed) → Contains types t → IsDistinct is_alike t.view.methods
 
 -- no type has two methods of one name and descriptor, as no class file has (JVMS 4.6)
 abbrev pub IsSingle : List Placed → Type 0

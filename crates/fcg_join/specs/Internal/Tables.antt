@@ -1,0 +1,27 @@
+-- The tables of a Joined.
+use Rattle.std.specs.Prelude.{◌≡◌, ℕ, ◌^◌, ◌<◌, List, Bool, not, ◌&&◌, Option, length, map}
+use Rattle.fcg_partial.specs.Parts.{PartShown}
+use Rattle.fcg_analysis.specs.NamesAndFlags.{has}
+use Rattle.fcg_analysis.specs.Types.{object}
+use Rattle.fcg_join.specs.declared.heads.TypeHead.{TypeHead}
+use Rattle.fcg_join.specs.declared.tables.TypeTables.{TypeTables}
+use Rattle.fcg_join.specs.Parts.{types_of}
+use Rattle.fcg_join.specs.PartNames.{set_names, AreSetNames}
+use Rattle.fcg_join.specs.TypeLinks.{HasLinks}
+use Rattle.fcg_join.specs.TypeNumbers.{AreHeads, FindsHeads, superclass_numbered}
+use Rattle.fcg_join.specs.Joined.{IsTypeNumber}
+
+abbrev pub is_object_class : TypeHead → Bool
+is_object_class h = h.is_object && not (has 0x0200 h.flags)
+
+abbrev pub superclasses_of : List TypeHead → List (Option ℕ) → List (Option ℕ)
+superclasses_of heads by_name = map (λ h. superclass_numbered heads by_name h.superclass) heads
+
+-- The tables are those of the known types of some parts.
+pub record IsJoined (parts : List PartShown) (t : TypeTables) : Type 0 where
+  pub names : AreSetNames parts t.names
+  pub heads : AreHeads parts t.heads.items (types_of parts)
+  pub by_name : FindsHeads t.heads.items t.linked.by_name.items (length (set_names parts))
+  pub links : HasLinks (types_of parts) t.linked.links
+  pub superclasses : t.superclasses.items ≡ superclasses_of t.heads.items t.linked.by_name.items
+  pub object' : IsTypeNumber (types_of parts) t.object (object (types_of parts))

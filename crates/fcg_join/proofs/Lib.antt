@@ -23,3 +23,4 @@ pub mod SuperNumbers
 pub mod LinkRows
 pub mod WinnerPlaces
 pub mod SuperRows
+pub mod JoinedLaws

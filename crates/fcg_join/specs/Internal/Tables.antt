@@ -1,5 +1,5 @@
 -- The tables of a Joined.
-use Rattle.std.specs.Prelude.{◌≡◌, ℕ, ◌^◌, ◌<◌, List, Bool, not, ◌&&◌, Option, length, map}
+use Rattle.std.specs.Prelude.{◌≡◌, ℕ, ◌^◌, ◌<◌, List, Bool, not, ◌&&◌, Option, Some, None, length, map, if◌then◌else◌}
 use Rattle.fcg_partial.specs.Parts.{PartShown}
 use Rattle.fcg_analysis.specs.NamesAndFlags.{has}
 use Rattle.fcg_analysis.specs.Types.{object}
@@ -25,3 +25,8 @@ pub record IsJoined (parts : List PartShown) (t : TypeTables) : Type 0 where
   pub links : HasLinks (types_of parts) t.linked.links
   pub superclasses : t.superclasses.items ≡ superclasses_of t.heads.items t.linked.by_name.items
   pub object' : IsTypeNumber (types_of parts) t.object (object (types_of parts))
+
+-- The next of a chain: the superclass, or else Object, where the type is neither Object nor an interface.
+abbrev pub next_numbered : Option ℕ → Bool → Option ℕ → Option ℕ
+next_numbered (Some y) none object = Some y
+next_numbered None none object = if none then None else object

@@ -110,3 +110,20 @@ head_made p i k v h names numbers e row r o oe s se =
         ∙ ap (λ ns. cond (same object_name v.name || has 0x0200 v.flags) None (option_map (λ k. get_or ns k 0) (super_number_of (part_names p) v.superclass))) e
         ∙ ap (λ m. cond (same object_name v.name || has 0x0200 v.flags) None m) (super_numbered names (part_names p) v.superclass (λ x a. named p k v h x (inr (among_left x (names_of_super v.superclass) _ a)))) in
     λ j. record { part = i; place = k; name = name j; flags = flags j; is_object = oe j; superclass = super j; methods = methods j }
+
+-- the name of a superclass is back
+pub super_back : (p : PartShown) (k : ℕ) (v : View) → HasView p k v → (n : ℕ) (y : List ℕ) → Some n ≡ super_number_of (part_names p) v.superclass → slice_get (part_names p) n ≡ Some y → Some y ≡ v.superclass
+super_back p k v h n y e f = at v.superclass (λ x a. named p k v h x (inr (among_left x (names_of_super v.superclass) _ a))) e
+  where
+    at : (s : Option (List ℕ)) → ((x : List ℕ) → Among x (names_of_super s) → Among x (part_names p)) → Some n ≡ super_number_of (part_names p) s → Some y ≡ s
+    at None a e = absurd cc
+    at (Some x) a e =
+        let number : n ≡ place (part_names p) x = cc in
+        ap (λ (z : List ℕ). Some z) (name_back (part_names p) x y (a x (inl refl)) (subst (λ (m : ℕ). slice_get (part_names p) m ≡ Some y) number f))
+
+pub super_none : (p : PartShown) (v : View) → None ≡ super_number_of (part_names p) v.superclass → None ≡ v.superclass
+super_none p v e = at v.superclass e
+  where
+    at : (s : Option (List ℕ)) → None ≡ super_number_of (part_names p) s → None ≡ s
+    at None e = refl
+    at (Some x) e = absurd cc

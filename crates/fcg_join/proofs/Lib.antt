@@ -24,3 +24,5 @@ pub mod LinkRows
 pub mod WinnerPlaces
 pub mod SuperRows
 pub mod JoinedLaws
+pub mod TableAnswers
+pub mod SearchNames

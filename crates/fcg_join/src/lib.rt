@@ -6,6 +6,7 @@
 
 mod heads;
 mod id;
+mod joined;
 mod known;
 mod laws;
 mod names;
@@ -18,6 +19,7 @@ mod tables;
 mod winners;
 
 pub use id::{MethodId, TypeId};
+pub use joined::Joined;
 pub use laws::{
     below_by_tables, circles_by_numbers, gaps_by_tables, known_by_marks, links_by_names,
     marks_are_upward, upward_tables, winners_by_numbers,

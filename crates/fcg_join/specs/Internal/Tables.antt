@@ -19,6 +19,7 @@ superclasses_of heads by_name = map (λ h. superclass_numbered heads by_name h.s
 
 -- The tables are those of the known types of some parts.
 pub record IsJoined (parts : List PartShown) (t : TypeTables) : Type 0 where
+  pub few : length (types_of parts) < 2 ^ 32
   pub names : AreSetNames parts t.names
   pub heads : AreHeads parts t.heads.items (types_of parts)
   pub by_name : FindsHeads t.heads.items t.linked.by_name.items (length (set_names parts))
@@ -26,7 +27,7 @@ pub record IsJoined (parts : List PartShown) (t : TypeTables) : Type 0 where
   pub superclasses : t.superclasses.items ≡ superclasses_of t.heads.items t.linked.by_name.items
   pub object' : IsTypeNumber (types_of parts) t.object (object (types_of parts))
 
--- The next of a chain: the superclass, or else Object, where the type is neither Object nor an interface.
+-- the next of a chain: the superclass, or else Object, unless the chain ends
 abbrev pub next_numbered : Option ℕ → Bool → Option ℕ → Option ℕ
-next_numbered (Some y) none object = Some y
-next_numbered None none object = if none then None else object
+next_numbered (Some y) ends object = Some y
+next_numbered None ends object = if ends then None else object

@@ -56,7 +56,10 @@ returns c =
     let d = known_distinct (placed parts) in
     let are : AreHeads parts c.as_slice.result.now (types_of parts) = subst (λ (hs : List TypeHead). AreHeads parts hs (types_of parts)) (sym c.as_slice.ensures.value) c.in_ok-heads.ensures in
     let are4 : AreHeads parts c.as_slice-4.result.now (types_of parts) = subst (λ (hs : List TypeHead). AreHeads parts hs (types_of parts)) (sym c.as_slice-4.ensures.value) c.in_ok-heads.ensures in
+    let f = are_few parts in
+    let k = few_known (placed parts) in
     record {
+      few = omega (arith, f.views_few, c.requires);
       names = c.in_ok-names.ensures;
       heads = c.in_ok-heads.ensures;
       by_name = subst (λ (hs : List TypeHead). FindsHeads hs by_name (length (set_names parts))) c.as_slice.ensures.value c.in_ok-linked.ensures.by_name;

@@ -26,3 +26,4 @@ pub mod SuperRows
 pub mod JoinedLaws
 pub mod TableAnswers
 pub mod SearchNames
+pub mod NodeTableLaws

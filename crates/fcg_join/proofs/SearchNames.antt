@@ -5,12 +5,12 @@ use Rattle.std.specs.declared.cmp.Ordering.{Ordering}
 use Rattle.std.specs.declared.cmp.Ordering.TheVariants.{Less, Equal, Greater}
 use Rattle.std.proofs.lemmas.Cmp.{nat_list_cmp_total}
 use Rattle.std.proofs.lemmas.Map.Keys.{sorted_tail}
-use Rattle.std.proofs.lemmas.Bool.{cases_eq}
+use Rattle.std.proofs.lemmas.Bool.{cases_eq, cases_lt}
 use Rattle.std.proofs.lemmas.List.{get_or_default}
 use Rattle.std.proofs.Common.{inl, inr}
 use Rattle.fcg_grammar.specs.Table.{order, Rises}
 use Rattle.fcg_grammar.proofs.Among.{among_at}
-use Rattle.fcg_grammar.proofs.TableLaws.{above_first, itself, turned}
+use Rattle.fcg_grammar.proofs.TableLaws.{above_first, itself}
 use Rattle.fcg_join.specs.Internal.Searched.{IsSearched}
 
 rises_at : (xs : List (List ℕ)) (j k : ℕ) → Rises xs → j < k → k < length xs → order (get_or xs j []) (get_or xs k []) ≡ Less
@@ -19,6 +19,9 @@ rises_at (x ∷ xs) zero zero r a b = absurd (omega arith)
 rises_at (x ∷ xs) zero (suc k) r a b = above_first (get_or xs k []) x xs r (among_at xs k [] (omega arith))
 rises_at (x ∷ xs) (suc j) zero r a b = absurd (omega arith)
 rises_at (x ∷ xs) (suc j) (suc k) r a b = rises_at xs j k (sorted_tail order x xs r) (omega arith) (omega arith)
+
+turned : (x y : List ℕ) → order x y ≡ Greater → order y x ≡ Less
+turned x y e = let a = nat_list_cmp_total.antisymm y x in rw e at a
 
 turned_back : (x y : List ℕ) → order x y ≡ Less → order y x ≡ Greater
 turned_back x y e = let a = nat_list_cmp_total.antisymm y x in rw e at a
@@ -47,16 +50,13 @@ module _ (names : List (List ℕ)) (name : List ℕ) (r : Rises names) (low high
   }
 
 pub searched_none : (names : List (List ℕ)) (name : List ℕ) (low high : ℕ) → high ≤ low → IsSearched names name low high → Contains names name → ⊥
-searched_none names name low high l s c = at (split c.0)
+searched_none names name low high l s c = at (cases_lt c.0 low)
   where
     same : get_or names c.0 [] ≡ name
     same = get_or_default names c.0 [] name c.1 ∙ c.2
 
     equal : order (get_or names c.0 []) name ≡ Equal
     equal = ap (λ n. order n name) same ∙ itself name
-
-    split : (k : ℕ) → (k < low) ⊎ (low ≤ k)
-    split k = omega arith
 
     at : (c.0 < low) ⊎ (low ≤ c.0) → ⊥
     at (inl a) = (let e = s.less c.0 a in let f = equal in absurd cc)

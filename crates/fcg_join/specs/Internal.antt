@@ -3,3 +3,4 @@ pub mod Numbering
 pub mod Collected
 pub mod Tables
 pub mod Searched
+pub mod Nodes

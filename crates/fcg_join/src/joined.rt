@@ -101,8 +101,10 @@ impl Joined {
         ensures range { IfSome result (λ t. t.0 < length (types_of self.now)) }
     {
         let places = self.tables.names.places.as_slice();
-        let number = find_name(self.parts.as_slice(), places, name)?;
-        type_id(self.tables.linked.by_name[number as usize])
+        match find_name(self.parts.as_slice(), places, name) {
+            Some(number) => type_id(self.tables.linked.by_name[number as usize]),
+            None => None,
+        }
     }
 
     // The type of a number, by the numbers of names.

@@ -13,6 +13,7 @@ mod names;
 mod part_names;
 mod type_links;
 mod node_laws;
+mod nodes;
 mod place_laws;
 mod table_laws;
 mod tables;

@@ -20,6 +20,7 @@ superclasses_of heads by_name = map (λ h. superclass_numbered heads by_name h.s
 -- The tables are those of the known types of some parts.
 pub record IsJoined (parts : List PartShown) (t : TypeTables) : Type 0 where
   pub few : length (types_of parts) < 2 ^ 32
+  pub few_names : length (set_names parts) < 2 ^ 32
   pub names : AreSetNames parts t.names
   pub heads : AreHeads parts t.heads.items (types_of parts)
   pub by_name : FindsHeads t.heads.items t.linked.by_name.items (length (set_names parts))

@@ -9,7 +9,7 @@ use Rattle.fcg_join.specs.TypeNumbers.{AreHeads, FindsHeads, head_at}
 use Rattle.fcg_join.specs.Internal.Tables.{superclasses_of, is_object_class}
 use Rattle.fcg_join.proofs.ZipLaws.{zip_long}
 use Rattle.fcg_join.proofs.HeadLaws.{all_used_below}
-use Rattle.fcg_join.proofs.JoinLaws.{are_few, few_known}
+use Rattle.fcg_join.proofs.JoinLaws.{are_few, few_known, few_set_names}
 use Rattle.fcg_join.proofs.JoinedLaws.{gives_object}
 use Rattle.fcg_join.proofs.tables.make_tables.Goals as goal
 
@@ -60,6 +60,7 @@ returns c =
     let k = few_known (placed parts) in
     record {
       few = omega (arith, f.views_few, c.requires);
+      few_names = (let n = few_set_names parts in omega (arith, f.names_few, c.requires));
       names = c.in_ok-names.ensures;
       heads = c.in_ok-heads.ensures;
       by_name = subst (λ (hs : List TypeHead). FindsHeads hs by_name (length (set_names parts))) c.as_slice.ensures.value c.in_ok-linked.ensures.by_name;

@@ -4,15 +4,16 @@ ghost use Rattle.fcg_partial.specs.Parts.{encoded_len};
 ghost use Rattle.fcg_analysis.specs.NamesAndFlags.{has};
 ghost use Rattle.fcg_analysis.specs.Declarations.{Placed};
 ghost use Rattle.fcg_analysis.specs.Types.{superclass, type_named};
+ghost use Rattle.fcg_analysis.specs.Nodes.{Node};
 ghost use Rattle.fcg_analysis.specs.Laws.ChainParts.{next_in_chain};
-ghost use Rattle.fcg_join.specs.Parts.{types_of};
+ghost use Rattle.fcg_join.specs.Parts.{types_of, nodes_of};
 ghost use Rattle.fcg_join.specs.PartNames.{set_names};
 ghost use Rattle.fcg_join.specs.TypeHeads.{IsHead};
-ghost use Rattle.fcg_join.specs.Joined.{HasType, GivesType};
+ghost use Rattle.fcg_join.specs.Joined.{HasType, HasNode, GivesType};
 ghost use Rattle.fcg_join.specs.Internal.Tables.{next_numbered};
 
 use crate::heads::{TypeHead, is_interface, name_of_head, superclass_name_of_head};
-use crate::id::TypeId;
+use crate::id::{MethodId, TypeId};
 use crate::part_names::find_name;
 use crate::tables::{TypeTables, make_tables};
 use fcg_partial::Parts;
@@ -20,7 +21,7 @@ use fcg_views::NoMemory;
 use std::alloc::Global;
 use std::marker::Model;
 
-/// The known types of some parts, with their links. Contracts see it as the parts.
+/// The known types of some parts, with their links and their methods. Contracts see it as the parts.
 #[derive(Drop)]
 pub struct Joined {
     parts: Parts,
@@ -158,5 +159,20 @@ impl Joined {
         let ends = ends_chain(&self.head(t));
         let superclass = self.tables.superclasses[t.0 as usize];
         type_id(next_number(superclass, ends, self.tables.object))
+    }
+    /// How many methods the known types have. Takes no memory.
+    pub fn method_count(&self) -> u32
+        ensures { result ≡ length (nodes_of self.now) }
+    {
+        self.tables.nodes.owners.len() as u32
+    }
+
+    /// The type that declares a method. Takes no memory, and is one look in a table.
+    pub fn owner(&self, m: MethodId) -> TypeId
+        requires { m.0 < length (nodes_of self.now) }
+        ensures value { (n : Node) → HasNode self.now m n → HasType self.now result n.owner }
+        ensures range { result.0 < length (types_of self.now) }
+    {
+        TypeId(self.tables.nodes.owners[m.0 as usize])
     }
 }

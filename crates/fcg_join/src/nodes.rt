@@ -20,7 +20,7 @@ pub struct NodeTables {
 fn push_owner(owners: &mut Vec<u32>, y: u32, methods: u16) -> Result<(), AllocError>
     ensures { OnOk result (owners.new.items ≡ owners.old.items ++ replicate methods y) }
 {
-    for _k in 0..methods {
+    for _ in 0..methods {
         owners.push(y)?;
     }
     Ok(())

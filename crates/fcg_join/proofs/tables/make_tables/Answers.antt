@@ -11,6 +11,9 @@ use Rattle.fcg_join.proofs.ZipLaws.{zip_long}
 use Rattle.fcg_join.proofs.HeadLaws.{all_used_below}
 use Rattle.fcg_join.proofs.JoinLaws.{are_few, few_known, few_set_names}
 use Rattle.fcg_join.proofs.JoinedLaws.{gives_object}
+use Rattle.fcg_analysis.proofs.NodePlaces.{count_is}
+use Rattle.fcg_join.specs.Internal.Nodes.{HaveMethods}
+use Rattle.fcg_join.proofs.NodeTableLaws.{few_methods, have_methods}
 use Rattle.fcg_join.proofs.tables.make_tables.Goals as goal
 
 pub number_part_names-requires : goal.number_part_names-requires
@@ -67,4 +70,20 @@ returns c =
       links = c.in_ok-linked.ensures.links (types_of parts) are d;
       superclasses = c.in_ok-superclasses.ensures ∙ ap (λ (hs : List TypeHead). superclasses_of hs c.as_slice-3.result.now) c.as_slice-2.ensures.value ∙ ap (superclasses_of heads) c.as_slice-3.ensures.value;
       object' = gives_object parts c.as_slice-4.result.now (types_of parts) are4 d c.find_object-object.result c.find_object-object.ensures.found c.find_object-object.ensures.none;
+      few_nodes = (let m = few_methods parts in let n = count_is (types_of parts) in omega (arith, c.requires));
+      nodes' = c.in_ok-nodes.ensures (types_of parts) (subst (λ (hs : List TypeHead). HaveMethods hs (types_of parts)) (sym c.as_slice-5.ensures.value) (have_methods parts heads (types_of parts) c.in_ok-heads.ensures));
     }
+
+pub number_nodes-requires-clause-few : goal.number_nodes-requires-clause-few
+number_nodes-requires-clause-few c =
+    let f = are_few c.args.parts.now in
+    let k = few_known (placed c.args.parts.now) in
+    let z = zip_long (IsHead c.args.parts.now (set_names c.args.parts.now)) c.in_ok-heads.heads.items (types_of c.args.parts.now) c.in_ok-heads.ensures in
+    let e = ap (λ hs. length hs) c.as_slice-5.ensures.value in
+    omega (arith, f.views_few, c.requires)
+
+pub number_nodes-requires-clause-methods : goal.number_nodes-requires-clause-methods
+number_nodes-requires-clause-methods c =
+    let parts = c.args.parts.now in
+    let m = few_methods parts in
+    (types_of parts, subst (λ (hs : List TypeHead). HaveMethods hs (types_of parts)) (sym c.as_slice-5.ensures.value) (have_methods parts c.in_ok-heads.heads.items (types_of parts) c.in_ok-heads.ensures), omega (arith, c.requires))

@@ -8,6 +8,13 @@ pub mod MarkLaws
 pub mod KeyLists
 pub mod NumberLaws
 pub mod KnownMarks
+pub mod CollectedLaws
+pub mod PartNameLaws
+pub mod GraphRows
+pub mod ZipLaws
+pub mod HeadLaws
+pub mod LinkLaws
+pub mod JoinLaws
 pub mod NodeNumbers
 pub mod RowLaws
 pub mod MentionRows
@@ -16,3 +23,7 @@ pub mod SuperNumbers
 pub mod LinkRows
 pub mod WinnerPlaces
 pub mod SuperRows
+pub mod JoinedLaws
+pub mod TableAnswers
+pub mod SearchNames
+pub mod NodeTableLaws

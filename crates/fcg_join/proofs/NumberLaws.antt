@@ -204,6 +204,7 @@ module _ (texts : List (Bor (List ℕ))) (keys : List Key) (keyed : AreKeys text
   pub number_all : (numbers places : List ℕ) (n : ℕ) → length keys ≤ n → n ≤ length keys → AreNumberedUpTo texts keys numbers places n → AreNumbered (texts_of texts) numbers places
   number_all numbers places n up down a = record {
     of_texts = listed numbers (texts_of texts) (a.long ∙ sym long) (λ q l. number_is q l);
+    within = λ k d l. (let w = a.within k d l in let g = long in omega arith);
     of_numbers = is;
   }
     where

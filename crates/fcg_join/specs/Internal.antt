@@ -1,2 +1,6 @@
 -- Words of the contracts of private functions: no public contract needs them.
 pub mod Numbering
+pub mod Collected
+pub mod Tables
+pub mod Searched
+pub mod Nodes

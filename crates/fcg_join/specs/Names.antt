@@ -1,5 +1,5 @@
 -- Texts by numbers: the places of their table.
-use Rattle.std.specs.Prelude.{◌≡◌, ℕ, List, [], map, slice_index_or}
+use Rattle.std.specs.Prelude.{◌≡◌, ℕ, ◌<◌, List, [], length, map, All, slice_index_or}
 use Rattle.std.specs.Borrow.{Bor}
 use Rattle.fcg_grammar.specs.Table.{table, place}
 
@@ -15,4 +15,5 @@ text_at texts p = slice_index_or texts p []
 -- bytes. Each number has the place of a text that has it.
 pub record AreNumbered (texts : List (List ℕ)) (numbers places : List ℕ) : Type 0 where
   pub of_texts : numbers ≡ map (place (table texts)) texts
+  pub within : All (λ p. p < length texts) places
   pub of_numbers : map (text_at texts) places ≡ table texts

@@ -4,13 +4,23 @@
 //! on the rules of the analysis, and on links by numbers.
 #![tactic(auto)]
 
+mod heads;
+mod id;
+mod joined;
+mod known;
 mod laws;
 mod names;
+mod part_names;
+mod type_links;
 mod node_laws;
+mod nodes;
 mod place_laws;
 mod table_laws;
+mod tables;
 mod winners;
 
+pub use id::{MethodId, TypeId};
+pub use joined::Joined;
 pub use laws::{
     below_by_tables, circles_by_numbers, gaps_by_tables, known_by_marks, links_by_names,
     marks_are_upward, upward_tables, winners_by_numbers,

@@ -5,4 +5,5 @@ pub mod Reading
 pub mod SmallNumbers
 pub mod Accessors
 pub mod Sizes
+pub mod Parts
 pub mod Internal

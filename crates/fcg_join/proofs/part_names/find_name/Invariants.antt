@@ -1,4 +1,4 @@
-use Rattle.std.proofs.Common.{ℕ, ◌-◌}
+use Rattle.std.proofs.Common.{◌-◌}
 use Rattle.std.specs.Prelude.{map}
 use Rattle.fcg_join.specs.PartNames.{name_there}
 use Rattle.fcg_join.specs.Internal.Searched.{IsSearched}

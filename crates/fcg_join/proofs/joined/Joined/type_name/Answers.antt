@@ -1,6 +1,5 @@
-use Rattle.std.proofs.Common.{◌≡◌, List, sym, subst, ◌∙◌}
+use Rattle.std.proofs.Common.{List, sym, subst, ◌∙◌}
 use Rattle.fcg_partial.specs.Parts.{PartShown}
-use Rattle.fcg_analysis.specs.Declarations.{Placed}
 use Rattle.fcg_join.specs.Parts.{types_of}
 use Rattle.fcg_join.specs.PartNames.{set_names}
 use Rattle.fcg_join.specs.TypeHeads.{IsHead}

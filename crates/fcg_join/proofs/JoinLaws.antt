@@ -1,8 +1,8 @@
 -- The winners and the known types are few, and a table of names has so many places.
-use Rattle.std.proofs.Common.{◌≡◌, ℕ, suc, ◌+◌, ◌<◌, ◌≤◌, List, [], ◌∷◌, ◌++◌, length, get_or, sym, ap, subst, ◌∙◌, cond, arith}
-use Rattle.std.specs.Prelude.{Bool, true, false, not, All, map, flat_map}
+use Rattle.std.proofs.Common.{◌≡◌, ℕ, ◌+◌, ◌<◌, ◌≤◌, List, [], ◌∷◌, ◌++◌, length, get_or, drop, sym, ap, ◌∙◌, cond, arith}
+use Rattle.std.specs.Prelude.{true, false, not, flat_map}
 use Rattle.std.specs.List.{list_any}
-use Rattle.std.proofs.lemmas.List.{length-map, length-append}
+use Rattle.std.proofs.lemmas.List.{length-map, length-append, drop_more, drop_all}
 use Rattle.std.specs.declared.cmp.Ordering.TheVariants.{Less, Equal, Greater}
 use Rattle.fcg_grammar.specs.Table.{order, by, put, table}
 use Rattle.fcg_views.specs.declared.view.View.{View}
@@ -14,7 +14,7 @@ use Rattle.fcg_analysis.specs.Types.{winners, winners_after, known, is_circular}
 use Rattle.fcg_analysis.proofs.General.Members.{length-filter_all}
 use Rattle.fcg_join.specs.declared.part_names.SetNames.{SetNames}
 use Rattle.fcg_join.specs.Parts.{placed_view, placed_of, placed}
-use Rattle.fcg_join.specs.PartNames.{part_names, all_names, set_names, name_there, AreSetNames}
+use Rattle.fcg_join.specs.Internal.PartNames.{part_names, all_names, set_names, name_there, AreSetNames}
 use Rattle.fcg_join.proofs.GraphRows.{types_many}
 
 winners_short : (earlier later : List Placed) → length (winners_after earlier later) ≤ length later
@@ -68,7 +68,7 @@ put_long : (x : List ℕ) (ys : List (List ℕ)) → length (put x ys) ≤ lengt
 put_long x [] = omega arith
 put_long x (y ∷ ys) =
     let r = put_long x ys in
-    elim (order x y) as (λ o. length (by o (x ∷ y ∷ ys) (y ∷ ys) (y ∷ put x ys)) ≤ length (y ∷ ys) + 1) [ | Less ↦ omega arith | Equal ↦ omega arith | Greater ↦ omega arith ]
+    elim (order x y) as (λ o. length (by o (x ∷ y ∷ ys) (y ∷ ys) (y ∷ put x ys)) ≤ length (y ∷ ys) + 1) [ Less ↦ omega arith | Equal ↦ omega arith | Greater ↦ omega arith ]
 
 table_long : (xs : List (List ℕ)) → length (table xs) ≤ length xs
 unfolding table
@@ -78,3 +78,12 @@ table_long (x ∷ xs) = (let a = put_long x (table xs) in let b = table_long xs 
 pub few_set_names : (parts : List PartShown) → length (set_names parts) ≤ length (all_names parts)
 unfolding set_names
 few_set_names parts = table_long (all_names parts)
+
+-- the bytes of the parts that are left
+pub encoded_more : (ps : List PartShown) (i : ℕ) (p : PartShown) → i < length ps → p ≡ get_or ps i p → encoded_len (drop i ps) ≡ length (text_of p.views) + encoded_len (drop (i + 1) ps)
+unfolding encoded_len
+encoded_more ps i p l e = ap encoded_len (drop_more ps i p l) ∙ ap (λ (q : PartShown). length (text_of q.views) + encoded_len (drop (i + 1) ps)) (sym e)
+
+pub encoded_none : (ps : List PartShown) (i : ℕ) → length ps ≤ i → encoded_len (drop i ps) ≡ 0
+unfolding encoded_len
+encoded_none ps i l = ap encoded_len (drop_all i ps l)

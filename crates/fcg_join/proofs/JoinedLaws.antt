@@ -1,6 +1,6 @@
 -- What the tables of types say by numbers is what the definitions say.
-use Rattle.std.proofs.Common.{◌≡◌, ℕ, ◌<◌, List, [], ◌∷◌, length, get_or, refl, sym, ap, subst, ◌∙◌, inl, inr, cond, drop, arith}
-use Rattle.std.specs.Prelude.{Bool, true, false, not, ◌&&◌, ◌||◌, All, Option, Some, None, IfSome, find, filter, option_to_list, slice_get, Contains, map}
+use Rattle.std.proofs.Common.{◌≡◌, ℕ, ◌<◌, List, [], ◌∷◌, length, get_or, refl, sym, ap, subst, ◌∙◌, cond, drop}
+use Rattle.std.specs.Prelude.{Bool, true, false, not, ◌&&◌, ◌||◌, All, Option, Some, None, IfSome, find, filter, option_to_list, slice_get, Contains}
 use Rattle.std.specs.List.{IsDistinct, AllZip}
 use Rattle.std.specs.Cmp.Lexicographic.{bytes_decides}
 use Rattle.std.proofs.lemmas.Option.{get_or_from_slice_get, slice_get_within, slice_get-get_or, same_Some}
@@ -10,24 +10,24 @@ use Rattle.fcg_grammar.proofs.TableLaws.{place_at, table_rises}
 use Rattle.fcg_partial.specs.Parts.{PartShown}
 use Rattle.fcg_analysis.specs.NamesAndFlags.{same, first_of_list}
 use Rattle.fcg_analysis.specs.Declarations.{Placed, is_named, is_type, is_object, is_interface, is_class, object_name}
-use Rattle.fcg_analysis.specs.Types.{object, superclass, extends, chain, type_named}
+use Rattle.fcg_analysis.specs.Types.{object, superclass, extends, type_named}
 use Rattle.fcg_analysis.specs.Laws.Statements.{IsAcyclic, chain_above}
 use Rattle.fcg_analysis.specs.Laws.ChainParts.{next_in_chain}
-use Rattle.fcg_analysis.proofs.General.Members.{IsIn, IsIn-from_Contains, Contains-from_IsIn, find_in, and_first, and_second}
+use Rattle.fcg_analysis.proofs.General.Members.{IsIn, IsIn-from_Contains, Contains-from_IsIn, find_in, and_first}
 use Rattle.fcg_analysis.proofs.General.Finding.{find_only}
 use Rattle.fcg_analysis.proofs.ChainLaws.{chain_goes_on}
 use Rattle.fcg_analysis.proofs.OverrideLaws.{one_of_name}
 use Rattle.fcg_join.specs.declared.heads.TypeHead.{TypeHead}
-use Rattle.fcg_join.specs.PartNames.{all_names, set_names}
-use Rattle.fcg_join.specs.TypeHeads.{IsHead, no_head, used_superclass}
+use Rattle.fcg_join.specs.Internal.PartNames.{all_names, set_names}
+use Rattle.fcg_join.specs.Internal.TypeHeads.{IsHead, no_head, used_superclass}
 use Rattle.fcg_join.specs.TypeLinks.{HasTypeAt}
-use Rattle.fcg_join.specs.TypeNumbers.{AreHeads, FindsHeads, head_at, superclass_numbered}
+use Rattle.fcg_join.specs.Internal.TypeNumbers.{AreHeads, FindsHeads, head_at, superclass_numbered}
 use Rattle.fcg_join.specs.Joined.{IsTypeNumber}
 use Rattle.fcg_join.specs.Internal.Tables.{is_object_class, next_numbered}
 use Rattle.fcg_join.proofs.Places.{place_of, has_in}
 use Rattle.fcg_join.proofs.ZipLaws.{zip_left, zip_right}
 use Rattle.fcg_join.proofs.HeadLaws.{used_is, all_named}
-use Rattle.fcg_join.proofs.LinkLaws.{IsLinked, HasName, super_is, super_at, number_of_type, type_of_number}
+use Rattle.fcg_join.proofs.LinkLaws.{super_is, super_at, number_of_type, type_of_number}
 
 pub same_items : {X : Type 0} (xs ys : List X) → AllZip (λ x y. y ≡ x) xs ys → ys ≡ xs
 same_items [] [] all = refl
@@ -98,10 +98,10 @@ module _ (parts : List PartShown) (heads : List TypeHead) (types : List Placed) 
         at (Some z) q =
             let r = super_is parts heads types by_name are d f h t is z q in
             let one : (v : Placed) → IsIn v types → extends t v ≡ true → v ≡ r.type = λ v j b. (
-                let p = place_of types v (Contains-from_IsIn types v j) in
-                let s = super_at parts heads types by_name are d f h t is p.0 v p.1 b in
-                let k : p.0 ≡ z = same_Some p.0 z (sym s ∙ q) in
-                same_Some v r.type (sym p.1 ∙ ap (slice_get types) k ∙ r.here)) in
+            let p = place_of types v (Contains-from_IsIn types v j) in
+            let s = super_at parts heads types by_name are d f h t is p.0 v p.1 b in
+            let k : p.0 ≡ z = same_Some p.0 z (sym s ∙ q) in
+            same_Some v r.type (sym p.1 ∙ ap (slice_get types) k ∙ r.here)) in
             let e : find (extends t) types ≡ Some r.type = find_only (extends t) types r.type (IsIn-from_Contains types r.type (has_in types z r.type r.here)) r.passes one in
             subst (λ (r : Option Placed). IsTypeNumber types (Some z) r) (sym e) r.here
 

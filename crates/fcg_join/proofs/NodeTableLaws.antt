@@ -1,23 +1,21 @@
 -- How the tables of nodes are made, and how many nodes there are.
 use Rattle.std.proofs.Common.{◌≡◌, ℕ, ◌+◌, ◌<◌, ◌≤◌, List, [], ◌∷◌, ◌++◌, length, get_or, take, replicate, refl, sym, ap, subst, ◌∙◌, cond, arith}
-use Rattle.std.specs.Prelude.{Bool, true, false, not, map, flat_map, filter, sum_by, slice_get, Some}
+use Rattle.std.specs.Prelude.{Bool, true, false, not, map, flat_map, filter, sum_by}
 use Rattle.std.specs.List.{list_any}
 use Rattle.std.proofs.lemmas.List.{length-map, get_or-map, take_more, take_all, length-take-le}
 use Rattle.std.proofs.lemmas.List.Sums.{sum_by-cons, sum_by-append, sum_by-take-le}
-use Rattle.std.proofs.lemmas.Option.{slice_get_within, get_or_from_slice_get}
 use Rattle.fcg_views.specs.declared.view.View.{View}
 use Rattle.fcg_partial.specs.Parts.{PartShown, encoded_len}
 use Rattle.fcg_partial.proofs.SizeLaws.{has_at_most}
 use Rattle.fcg_analysis.specs.Declarations.{Placed, is_type}
 use Rattle.fcg_analysis.specs.Types.{winners, winners_after, known, is_circular}
-use Rattle.fcg_analysis.specs.Nodes.{nodes}
 use Rattle.fcg_analysis.specs.Laws.Methods.{method_total}
 use Rattle.fcg_analysis.proofs.NodePlaces.{count_is}
 use Rattle.fcg_join.specs.declared.heads.TypeHead.{TypeHead}
 use Rattle.fcg_join.specs.Parts.{placed_view, placed_of, placed, types_of}
-use Rattle.fcg_join.specs.PartNames.{set_names}
-use Rattle.fcg_join.specs.TypeHeads.{IsHead, no_head}
-use Rattle.fcg_join.specs.TypeNumbers.{AreHeads, head_at}
+use Rattle.fcg_join.specs.Internal.PartNames.{set_names}
+use Rattle.fcg_join.specs.Internal.TypeHeads.{IsHead, no_head}
+use Rattle.fcg_join.specs.Internal.TypeNumbers.{AreHeads, head_at}
 use Rattle.fcg_join.specs.NodeTables.{first_nodes, owners}
 use Rattle.fcg_join.specs.Internal.Nodes.{HaveMethods, AreNodeTables}
 use Rattle.fcg_join.proofs.NodeNumbers.{first_nodes_go_on, owners_go_on, owners_long}
@@ -45,7 +43,7 @@ module _ (heads : List TypeHead) (types : List Placed) (have : HaveMethods heads
       let more : take (y + 1) types ≡ take y types ++ t.0 ∷ [] = take_more types y t.0 m ∙ ap (λ u. take y types ++ u ∷ []) (sym t.2) in
       let total : length os ≡ method_total (take y types) = ap (λ ns. length ns) a.owners_are ∙ owners_long (take y types) ∙ count_is (take y types) in
       let methods : (head_at heads y).methods ≡ length t.0.view.methods =
-          sym (get_or-map (λ h. h.methods) heads y no_head 0 l) ∙ ap (λ ns. get_or ns y 0) have ∙ get_or-map (λ u. length u.view.methods) types y t.0 0 m ∙ ap (λ u. length u.view.methods) (sym t.2) in
+      sym (get_or-map (λ h. h.methods) heads y no_head 0 l) ∙ ap (λ ns. get_or ns y 0) have ∙ get_or-map (λ u. length u.view.methods) types y t.0 0 m ∙ ap (λ u. length u.view.methods) (sym t.2) in
       let long : length (take y types) ≡ y = length-take-le y types (omega arith) in
       record {
         firsts_are = e ∙ ap (λ ns. ns ++ length os ∷ []) a.firsts_are ∙ ap (λ n. first_nodes (take y types) ++ n ∷ []) total ∙ sym (first_nodes_go_on (take y types) t.0) ∙ sym (ap first_nodes more);

@@ -1,5 +1,5 @@
 -- What the tables of a Joined answer.
-use Rattle.std.proofs.Common.{◌≡◌, ℕ, ◌<◌, List, length, get_or, refl, sym, ap, subst, ◌∙◌, arith}
+use Rattle.std.proofs.Common.{◌≡◌, ℕ, ◌<◌, List, length, get_or, sym, ap, subst, ◌∙◌, arith}
 use Rattle.std.specs.Prelude.{Option, Some, None, IfSome, option_map, ◌||◌, map, slice_get, Contains}
 use Rattle.std.proofs.lemmas.List.{length-map, get_or-map}
 use Rattle.std.proofs.lemmas.Option.{slice_get_within}
@@ -11,17 +11,16 @@ use Rattle.fcg_analysis.specs.Laws.Statements.{IsAcyclic}
 use Rattle.fcg_analysis.proofs.General.Walking.{led_from_walk}
 use Rattle.fcg_analysis.proofs.WinnerLaws.{known_distinct, known_acyclic}
 use Rattle.fcg_analysis.specs.Types.{above, links}
-use Rattle.fcg_join.specs.declared.heads.TypeHead.{TypeHead}
 use Rattle.fcg_join.specs.declared.id.TypeId.{TypeId}
 use Rattle.fcg_join.specs.declared.tables.TypeTables.{TypeTables}
 use Rattle.fcg_join.specs.Parts.{placed, types_of}
 use Rattle.fcg_join.specs.declared.part_names.NamePlace.{NamePlace}
-use Rattle.fcg_join.specs.PartNames.{set_names, name_there}
-use Rattle.fcg_join.specs.TypeHeads.{IsHead, no_head}
+use Rattle.fcg_join.specs.Internal.PartNames.{set_names, name_there}
+use Rattle.fcg_join.specs.Internal.TypeHeads.{IsHead, no_head}
 use Rattle.fcg_join.specs.TypeLinks.{HasTypeAt}
-use Rattle.fcg_join.specs.TypeNumbers.{head_at, superclass_numbered}
+use Rattle.fcg_join.specs.Internal.TypeNumbers.{head_at, superclass_numbered}
 use Rattle.fcg_join.specs.Joined.{IsTypeNumber}
-use Rattle.fcg_join.specs.Internal.Tables.{IsJoined, superclasses_of, next_numbered}
+use Rattle.fcg_join.specs.Internal.Tables.{IsJoined, next_numbered}
 use Rattle.fcg_join.proofs.Places.{has_in}
 use Rattle.fcg_join.proofs.ZipLaws.{zip_long}
 use Rattle.fcg_join.proofs.JoinedLaws.{head_of_type, gives_superclass, gives_next, gives_named, gives_unnamed}

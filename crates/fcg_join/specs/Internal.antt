@@ -4,3 +4,7 @@ pub mod Collected
 pub mod Tables
 pub mod Searched
 pub mod Nodes
+pub mod PartNames
+pub mod PartRows
+pub mod TypeHeads
+pub mod TypeNumbers

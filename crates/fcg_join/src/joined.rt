@@ -1,14 +1,15 @@
 //! The known types of some parts.
-ghost use Rattle.std.specs.Prelude.{◌≡◌, ◌||◌, ◌<◌, ◌≤◌, length, option_map, IfOk, IfSome};
+ghost use Rattle.std.specs.Prelude.{◌≡◌, ◌||◌, ◌↔◌, ◌<◌, ◌≤◌, length, option_map, IfOk, IfSome, IsTrue};
 ghost use Rattle.fcg_partial.specs.Parts.{encoded_len};
+ghost use Rattle.fcg_partial.specs.Views.{text_of};
 ghost use Rattle.fcg_analysis.specs.NamesAndFlags.{has};
 ghost use Rattle.fcg_analysis.specs.Declarations.{Placed};
 ghost use Rattle.fcg_analysis.specs.Types.{superclass, type_named};
 ghost use Rattle.fcg_analysis.specs.Nodes.{Node};
 ghost use Rattle.fcg_analysis.specs.Laws.ChainParts.{next_in_chain};
 ghost use Rattle.fcg_join.specs.Parts.{types_of, nodes_of};
-ghost use Rattle.fcg_join.specs.PartNames.{set_names};
-ghost use Rattle.fcg_join.specs.TypeHeads.{IsHead};
+ghost use Rattle.fcg_join.specs.Internal.PartNames.{set_names};
+ghost use Rattle.fcg_join.specs.Internal.TypeHeads.{IsHead};
 ghost use Rattle.fcg_join.specs.Joined.{HasType, HasNode, GivesType};
 ghost use Rattle.fcg_join.specs.Internal.Tables.{next_numbered};
 
@@ -16,10 +17,13 @@ use crate::heads::{TypeHead, is_interface, name_of_head, superclass_name_of_head
 use crate::id::{MethodId, TypeId};
 use crate::part_names::find_name;
 use crate::tables::{TypeTables, make_tables};
-use fcg_partial::Parts;
+use fcg_partial::{Part, Parts};
 use fcg_views::NoMemory;
 use std::alloc::Global;
 use std::marker::Model;
+
+// The most bytes that the encodings of the parts have in sum.
+const MOST_BYTES: u64 = 268_435_456;
 
 /// The known types of some parts, with their links and their methods. Contracts see it as the parts.
 #[derive(Drop)]
@@ -38,6 +42,13 @@ impl Model for Joined {
     ghost view = { λ j. j.parts };
 
     ghost invariant = { λ j. IsJoined j.parts j.tables };
+}
+
+// How many bytes spell the graph of a part.
+fn count_bytes(part: &Part) -> u64
+    ensures { result ≡ length (text_of part.now.views) }
+{
+    part.graph.encoded_len()
 }
 
 // The number as that of a type.
@@ -69,7 +80,23 @@ fn ends_chain(head: &TypeHead) -> bool
 }
 
 impl Joined {
-    /// Joins the parts, of which the first that has a type decides. Their encodings have at most 268,435,456 bytes in sum.
+    /// Whether the encodings of the parts have at most 268,435,456 bytes in sum. Takes no memory.
+    pub fn fits(parts: &Parts) -> bool
+        ensures { IsTrue result ↔ (encoded_len parts.now ≤ 268435456) }
+    {
+        let mut left = MOST_BYTES;
+        for part in parts.as_slice() {
+            let size = count_bytes(part);
+            if size > left {
+                return false;
+            }
+            left -= size;
+        }
+        true
+    }
+
+    /// Joins the parts, of which the first that has a type decides. Their encodings have at most 268,435,456 bytes in sum,
+    /// which `fits` tells.
     ///
     /// It shares the graphs. It goes over the tables of the parts a few times, and sorts the names of all parts once.
     /// Circles of any length are found by one search without recursion.

@@ -1,8 +1,7 @@
-use Rattle.std.proofs.Common.{◌≡◌, ℕ, List, sym, ap, subst, ◌∙◌}
-use Rattle.std.specs.Prelude.{slice_get, Some, None}
+use Rattle.std.proofs.Common.{◌≡◌, List, sym, ap, subst, ◌∙◌}
+use Rattle.std.specs.Prelude.{slice_get, Some}
 use Rattle.fcg_views.specs.declared.view.View.{View}
 use Rattle.fcg_partial.specs.Views.{graph_of}
-use Rattle.fcg_join.specs.PartNames.{part_names}
 use Rattle.fcg_join.proofs.GraphRows.{super_back, super_none}
 use Rattle.fcg_join.proofs.heads.superclass_name.Goals as goal
 

@@ -1,4 +1,4 @@
-use Rattle.std.proofs.Common.{◌≡◌, ℕ, ◌<◌, List, length, sym, ap, subst, ◌∙◌, arith}
+use Rattle.std.proofs.Common.{◌≡◌, List, length, sym, ap, subst, ◌∙◌, arith}
 use Rattle.std.specs.Prelude.{map, not, Bool}
 use Rattle.std.proofs.lemmas.List.{length-map}
 use Rattle.std.proofs.lemmas.Result.{IfOk-weaker}
@@ -7,9 +7,9 @@ use Rattle.fcg_analysis.specs.Types.{winners, known}
 use Rattle.fcg_analysis.proofs.WinnerLaws.{winners_distinct}
 use Rattle.fcg_join.specs.declared.heads.TypeHead.{TypeHead}
 use Rattle.fcg_join.specs.Parts.{placed}
-use Rattle.fcg_join.specs.PartNames.{set_names}
-use Rattle.fcg_join.specs.TypeHeads.{IsHead}
-use Rattle.fcg_join.specs.TypeNumbers.{AreHeads}
+use Rattle.fcg_join.specs.Internal.PartNames.{set_names}
+use Rattle.fcg_join.specs.Internal.TypeHeads.{IsHead}
+use Rattle.fcg_join.specs.Internal.TypeNumbers.{AreHeads}
 use Rattle.fcg_join.specs.Winners.{marked}
 use Rattle.fcg_join.proofs.KnownMarks.{known_marks}
 use Rattle.fcg_join.proofs.ZipLaws.{zip_long, zip_marked}
@@ -57,6 +57,6 @@ returns c =
     let marks : c.as_slice-2.result.now ≡ map not c.in_ok-order.order.circular.items = c.as_slice-2.ensures.value ∙ c.in_ok-sound.ensures ∙ ap (map not) c.as_slice.ensures.value in
     let kept : known (placed parts) ≡ marked c.as_slice-2.result.now types = known_marks (placed parts) c.in_ok-linked.linked.links c.in_ok-order.order.circular.items links c.in_ok-order.ensures.circles ∙ sym (ap (λ (ms : List Bool). marked ms types) marks) in
     let all : AreHeads parts (marked c.as_slice-2.result.now heads) (known (placed parts)) =
-        subst (λ (ts : List Placed). AreHeads parts (marked c.as_slice-2.result.now heads) ts) (sym kept) (zip_marked (IsHead parts (set_names parts)) c.as_slice-2.result.now heads types are) in
+    subst (λ (ts : List Placed). AreHeads parts (marked c.as_slice-2.result.now heads) ts) (sym kept) (zip_marked (IsHead parts (set_names parts)) c.as_slice-2.result.now heads types are) in
     IfOk-weaker c.keep_marked.result (λ k. k.items ≡ marked c.as_slice-2.result.now heads) (λ k. AreHeads parts k.items (known (placed parts)))
     (λ k e. subst (λ (hs : List TypeHead). AreHeads parts hs (known (placed parts))) (sym e) all) c.keep_marked.ensures

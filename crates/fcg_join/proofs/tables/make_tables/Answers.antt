@@ -1,12 +1,12 @@
 use Rattle.std.proofs.Common.{◌≡◌, ℕ, ◌<◌, List, length, get_or, sym, ap, subst, ◌∙◌, arith}
-use Rattle.std.specs.Prelude.{Option, IfSome, Bool, true, false, All, None}
+use Rattle.std.specs.Prelude.{IfSome}
 use Rattle.fcg_analysis.proofs.WinnerLaws.{known_distinct}
 use Rattle.fcg_join.specs.declared.heads.TypeHead.{TypeHead}
 use Rattle.fcg_join.specs.Parts.{placed, types_of}
-use Rattle.fcg_join.specs.PartNames.{set_names}
-use Rattle.fcg_join.specs.TypeHeads.{IsHead}
-use Rattle.fcg_join.specs.TypeNumbers.{AreHeads, FindsHeads, head_at}
-use Rattle.fcg_join.specs.Internal.Tables.{superclasses_of, is_object_class}
+use Rattle.fcg_join.specs.Internal.PartNames.{set_names}
+use Rattle.fcg_join.specs.Internal.TypeHeads.{IsHead}
+use Rattle.fcg_join.specs.Internal.TypeNumbers.{AreHeads, FindsHeads}
+use Rattle.fcg_join.specs.Internal.Tables.{superclasses_of}
 use Rattle.fcg_join.proofs.ZipLaws.{zip_long}
 use Rattle.fcg_join.proofs.HeadLaws.{all_used_below}
 use Rattle.fcg_join.proofs.JoinLaws.{are_few, few_known, few_set_names}

@@ -1,14 +1,13 @@
-use Rattle.std.proofs.Common.{◌≡◌, ℕ, ◌<◌, List, length, get_or, sym, ap, subst, ◌∙◌, arith}
-use Rattle.std.specs.Prelude.{Option, Some, None, map, slice_get, Contains}
+use Rattle.std.proofs.Common.{◌≡◌, ℕ, List, length, sym, ap, subst, ◌∙◌, arith}
+use Rattle.std.specs.Prelude.{Option, Some, None, slice_get, Contains}
 use Rattle.std.proofs.lemmas.List.{get_or_default, length-map}
 use Rattle.std.proofs.lemmas.Option.{slice_get_within}
 use Rattle.fcg_grammar.specs.Table.{Rises}
 use Rattle.fcg_grammar.proofs.TableLaws.{table_rises}
 use Rattle.fcg_partial.specs.Parts.{PartShown}
 use Rattle.fcg_analysis.specs.Types.{type_named}
-use Rattle.fcg_join.specs.declared.part_names.NamePlace.{NamePlace}
-use Rattle.fcg_join.specs.Parts.{placed, types_of}
-use Rattle.fcg_join.specs.PartNames.{all_names, set_names, name_there}
+use Rattle.fcg_join.specs.Parts.{types_of}
+use Rattle.fcg_join.specs.Internal.PartNames.{all_names, set_names, name_there}
 use Rattle.fcg_join.specs.Joined.{IsTypeNumber}
 use Rattle.fcg_join.specs.Internal.Tables.{IsJoined}
 use Rattle.fcg_join.proofs.TableAnswers.{named_there, unnamed_there, in_range, names_here}

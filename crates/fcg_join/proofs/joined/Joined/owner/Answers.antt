@@ -1,5 +1,4 @@
 use Rattle.std.proofs.Common.{◌≡◌, ℕ, ◌<◌, List, length, get_or, sym, ap, subst, ◌∙◌, arith}
-use Rattle.std.specs.Prelude.{All}
 use Rattle.std.proofs.lemmas.List.{get_or_default}
 use Rattle.fcg_partial.specs.Parts.{PartShown}
 use Rattle.fcg_join.specs.Parts.{types_of}
@@ -22,7 +21,7 @@ returns-clause-value c = λ n h. (
     let os = c.self.inside.tables.nodes.owners.items in
     let m = ap (λ ns. length ns) j.nodes'.owners_are ∙ owners_long (types_of c.args.self.now) in
     let e : c.index.result.now ≡ get_or (owners (types_of c.args.self.now)) c.args.m.0 0 =
-        c.index.ensures ∙ get_or_default os c.args.m.0 c.index.result.now 0 (omega (arith, c.requires)) ∙ ap (λ ns. get_or ns c.args.m.0 0) j.nodes'.owners_are in
+    c.index.ensures ∙ get_or_default os c.args.m.0 c.index.result.now 0 (omega (arith, c.requires)) ∙ ap (λ ns. get_or ns c.args.m.0 0) j.nodes'.owners_are in
     subst (λ (y : ℕ). HasTypeAt (types_of c.args.self.now) y n.owner) (sym e) (owner_is (types_of c.args.self.now) c.args.m.0 n h))
 
 pub returns-clause-range : goal.returns-clause-range
@@ -32,5 +31,5 @@ returns-clause-range c =
     let m = ap (λ ns. length ns) j.nodes'.owners_are ∙ owners_long (types_of c.args.self.now) in
     let l : c.args.m.0 < length (owners (types_of c.args.self.now)) = (let a = owners_long (types_of c.args.self.now) in omega (arith, c.requires)) in
     let e : c.index.result.now ≡ get_or (owners (types_of c.args.self.now)) c.args.m.0 0 =
-        c.index.ensures ∙ get_or_default os c.args.m.0 c.index.result.now 0 (omega (arith, c.requires)) ∙ ap (λ ns. get_or ns c.args.m.0 0) j.nodes'.owners_are in
+    c.index.ensures ∙ get_or_default os c.args.m.0 c.index.result.now 0 (omega (arith, c.requires)) ∙ ap (λ ns. get_or ns c.args.m.0 0) j.nodes'.owners_are in
     subst (λ (y : ℕ). y < length (types_of c.args.self.now)) (sym e) (owners_within (types_of c.args.self.now) c.args.m.0 0 l)

@@ -1,12 +1,12 @@
 -- Types by numbers, without the lists of interfaces and of methods.
-use Rattle.std.specs.Prelude.{◌≡◌, ℕ, List, [], ◌∷◌, Option, None, Bool, false, ◌||◌, map, length, option_map, Some, slice_get, slice_index_or, if◌then◌else◌}
+use Rattle.std.specs.Prelude.{◌≡◌, ℕ, List, [], ◌∷◌, Option, None, false, ◌||◌, length, option_map, Some, slice_get, if◌then◌else◌}
 use Rattle.fcg_grammar.specs.Table.{place}
 use Rattle.fcg_views.specs.declared.view.View.{View}
 use Rattle.fcg_partial.specs.Parts.{PartShown}
 use Rattle.fcg_analysis.specs.Declarations.{Placed, is_object, is_interface}
 use Rattle.fcg_join.specs.declared.heads.TypeHead.{TypeHead}
 use Rattle.fcg_join.specs.Parts.{placed_view}
-use Rattle.fcg_join.specs.PartRows.{HasView}
+use Rattle.fcg_join.specs.Internal.PartRows.{HasView}
 use Rattle.fcg_join.specs.Internal.Collected.{collected}
 
 -- the number of the superclass name that a type uses

@@ -1,11 +1,11 @@
 -- The rows of a part's types, by its views.
-use Rattle.std.specs.Prelude.{◌≡◌, ℕ, List, length, Some, slice_get}
+use Rattle.std.specs.Prelude.{◌≡◌, ℕ, length, Some, slice_get}
 use Rattle.fcg_views.specs.declared.view.View.{View}
 use Rattle.fcg_partial.specs.declared.row.TypeRow.{TypeRow}
 use Rattle.fcg_partial.specs.Parts.{PartShown}
 use Rattle.fcg_partial.specs.Views.{super_number_of}
 use Rattle.fcg_grammar.specs.Table.{place}
-use Rattle.fcg_join.specs.PartNames.{part_names}
+use Rattle.fcg_join.specs.Internal.PartNames.{part_names}
 
 -- v is the view at a place of a part
 abbrev pub HasView : PartShown → ℕ → View → Type 0

@@ -1,13 +1,13 @@
 -- Types by numbers: which type has a name, and to which types one links.
-use Rattle.std.specs.Prelude.{◌≡◌, ℕ, ◌<◌, List, [], ◌++◌, Option, Some, None, map, flat_map, length, option_and_then, option_to_list, slice_index_or, if◌then◌else◌}
+use Rattle.std.specs.Prelude.{◌≡◌, ℕ, ◌<◌, List, ◌++◌, Option, Some, None, flat_map, length, option_and_then, option_to_list, slice_index_or, if◌then◌else◌}
 use Rattle.std.specs.List.{AllZip}
 use Rattle.fcg_grammar.specs.Table.{place}
 use Rattle.fcg_partial.specs.Parts.{PartShown}
 use Rattle.fcg_analysis.specs.NamesAndFlags.{has}
 use Rattle.fcg_analysis.specs.Declarations.{Placed, interface_names}
 use Rattle.fcg_join.specs.declared.heads.TypeHead.{TypeHead}
-use Rattle.fcg_join.specs.PartNames.{set_names}
-use Rattle.fcg_join.specs.TypeHeads.{IsHead, no_head, used_superclass}
+use Rattle.fcg_join.specs.Internal.PartNames.{set_names}
+use Rattle.fcg_join.specs.Internal.TypeHeads.{IsHead, no_head, used_superclass}
 
 -- these are the types, place by place
 abbrev pub AreHeads : List PartShown → List TypeHead → List Placed → Type 0

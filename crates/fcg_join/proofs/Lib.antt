@@ -24,3 +24,4 @@ pub mod LinkRows
 pub mod WinnerPlaces
 pub mod SuperRows
 pub mod JoinedLaws
+pub mod GapLaws

@@ -35,7 +35,7 @@ option_in : (o : Option ℕ) (y : ℕ) → o ≡ Some y → IsIn y (option_to_li
 option_in None y e = absurd cc
 option_in (Some z) y e = inl (same_Some z y e)
 
-in_among : (x : List ℕ) (xs : List (List ℕ)) → IsIn x xs → Among x xs
+pub in_among : (x : List ℕ) (xs : List (List ℕ)) → IsIn x xs → Among x xs
 in_among x [] i = i
 in_among x (y ∷ ys) (inl e) = inl e
 in_among x (y ∷ ys) (inr i) = inr (in_among x ys i)
@@ -77,7 +77,7 @@ module _ (parts : List PartShown) (heads : List TypeHead) (types : List Placed) 
       let back : t.0 ≡ y = one_place types t.0 y u d (subst (λ (v : Placed). HasTypeAt types t.0 v) (sym same) w.here) h in
       e ∙ ap (λ (n : ℕ). Some n) back
 
-  flags_are : (y : ℕ) (u : Placed) → IsHead parts N (head_at heads y) u → has 0x0200 (head_at heads y).flags ≡ is_interface u
+  pub flags_are : (y : ℕ) (u : Placed) → IsHead parts N (head_at heads y) u → has 0x0200 (head_at heads y).flags ≡ is_interface u
   flags_are y u is = ap (λ (g : TypeHead). has 0x0200 g.flags) is.head_is
 
   -- ---- the class and the interface of a name
@@ -159,7 +159,7 @@ module _ (parts : List PartShown) (heads : List TypeHead) (types : List Placed) 
         ]
 
     -- ---- the interfaces
-    names_named : (x : List ℕ) → Among x (interface_names t) → Among x N
+    pub names_named : (x : List ℕ) → Among x (interface_names t) → Among x N
     names_named x a = at (is_object t) a
       where
         at : (b : Bool) → Among x (cond b [] t.view.interfaces) → Among x N

@@ -2,3 +2,4 @@
 pub mod Numbering
 pub mod Collected
 pub mod Tables
+pub mod Gaps

@@ -4,6 +4,7 @@
 //! on the rules of the analysis, and on links by numbers.
 #![tactic(auto)]
 
+mod gaps;
 mod heads;
 mod id;
 mod known;
@@ -11,6 +12,7 @@ mod laws;
 mod names;
 mod part_names;
 mod type_links;
+mod used_names;
 mod node_laws;
 mod place_laws;
 mod table_laws;

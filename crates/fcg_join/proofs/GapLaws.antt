@@ -27,11 +27,11 @@ use Rattle.fcg_join.specs.Internal.Gaps.{has_number, is_link, lacks_interface, l
 use Rattle.fcg_join.proofs.Firsts.{same_names}
 use Rattle.fcg_join.proofs.Places.{place_of, has_in}
 use Rattle.fcg_join.proofs.HeadLaws.{used_is, super_named, interfaces_named, all_of_map}
-use Rattle.fcg_join.proofs.LinkLaws.{HasName, in_among, type_of_number, number_of_type, head_here, flags_are, names_named}
+use Rattle.fcg_join.proofs.LinkLaws.{HasName, in_among, type_of_number, number_of_type, head_here, flags_are}
 
 -- ---- lists
 
-any_append : {X : Type 0} (p : X → Bool) (xs ys : List X) → list_any p (xs ++ ys) ≡ (list_any p xs || list_any p ys)
+pub any_append : {X : Type 0} (p : X → Bool) (xs ys : List X) → list_any p (xs ++ ys) ≡ (list_any p xs || list_any p ys)
 any_append p [] ys = refl
 any_append p (x ∷ xs) ys = at (p x) (any_append p xs ys)
   where
@@ -83,6 +83,13 @@ module _ (parts : List PartShown) (h : TypeHead) (t : Placed) (is : IsHead parts
       at false None a i = absurd i
       at false (Some m) a (inl e) = a n (inl e)
       at false (Some m) a (inr i) = absurd i
+
+  pub interface_name_named : (n : List ℕ) → IsIn n (interface_names t) → Among n (set_names parts)
+  interface_name_named n i = at (is_object t) (in_among n (interface_names t) i)
+    where
+      at : (b : Bool) → Among n (cond b [] t.view.interfaces) → Among n (set_names parts)
+      at true a = absurd a
+      at false a = interfaces_named parts h t is n a
 
   pub interfaces_all_below : All (λ k. k < length (set_names parts)) (map (place (set_names parts)) (interface_names t))
   interfaces_all_below = all_below (set_names parts) (interface_names t) (λ x a. at x (is_object t) a)
@@ -147,7 +154,7 @@ module _ (parts : List PartShown) (heads : List TypeHead) (types : List Placed) 
   -- ---- a type without a link for a name
   module _ (h : TypeHead) (t : Placed) (is : IsHead parts N h t) where
     interface_named : (n : List ℕ) → IsIn n (interface_names t) → Among n N
-    interface_named n i = names_named parts heads types by_name are d f h t is n (in_among n (interface_names t) i)
+    interface_named = interface_name_named parts h t is
 
     S : List ℕ
     S = map (place N) (superclass_names t)

@@ -25,3 +25,7 @@ pub mod WinnerPlaces
 pub mod SuperRows
 pub mod JoinedLaws
 pub mod GapLaws
+pub mod JoinedRowLaws
+pub mod OwnMentions
+pub mod BelowLaws
+pub mod BelowNumbers

@@ -81,7 +81,7 @@ module _ (parts : List PartShown) (heads : List TypeHead) (types : List Placed) 
   flags_are y u is = ap (λ (g : TypeHead). has 0x0200 g.flags) is.head_is
 
   -- ---- the class and the interface of a name
-  class_is : (n : List ℕ) → Among n N → (y : ℕ) → class_numbered heads by_name (place N n) ≡ Some y → (r : HasName n y) × (is_class r.type ≡ true)
+  pub class_is : (n : List ℕ) → Among n N → (y : ℕ) → class_numbered heads by_name (place N n) ≡ Some y → (r : HasName n y) × (is_class r.type ≡ true)
   class_is n a y e = at (type_numbered by_name (place N n)) refl e
     where
       at : (o : Option ℕ) → type_numbered by_name (place N n) ≡ o → option_and_then (λ z. cond (has 0x0200 (head_at heads z).flags) None (Some z)) o ≡ Some y
@@ -95,7 +95,7 @@ module _ (parts : List PartShown) (heads : List TypeHead) (types : List Placed) 
           by_kind true z r k e = absurd cc
           by_kind false z r k e = subst (λ (m : ℕ). (r : HasName n m) × (is_class r.type ≡ true)) (same_Some z y e) (r, ap not k)
 
-  class_at : (y : ℕ) (u : Placed) → HasTypeAt types y u → is_class u ≡ true → class_numbered heads by_name (place N u.view.name) ≡ Some y
+  pub class_at : (y : ℕ) (u : Placed) → HasTypeAt types y u → is_class u ≡ true → class_numbered heads by_name (place N u.view.name) ≡ Some y
   class_at y u h k =
       ap (option_and_then (λ z. cond (has 0x0200 (head_at heads z).flags) None (Some z))) (number_of_type y u h)
       ∙ ap (λ b. cond b None (Some y)) (flags_are y u (head_here y u h) ∙ no_interface (is_interface u) k)
@@ -159,7 +159,7 @@ module _ (parts : List PartShown) (heads : List TypeHead) (types : List Placed) 
         ]
 
     -- ---- the interfaces
-    pub names_named : (x : List ℕ) → Among x (interface_names t) → Among x N
+    names_named : (x : List ℕ) → Among x (interface_names t) → Among x N
     names_named x a = at (is_object t) a
       where
         at : (b : Bool) → Among x (cond b [] t.view.interfaces) → Among x N

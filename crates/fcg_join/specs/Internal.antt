@@ -3,3 +3,6 @@ pub mod Numbering
 pub mod Collected
 pub mod Tables
 pub mod Gaps
+pub mod Mentions
+pub mod Below
+pub mod Inherited

@@ -4,14 +4,19 @@
 //! on the rules of the analysis, and on links by numbers.
 #![tactic(auto)]
 
+mod below;
 mod gaps;
 mod heads;
 mod id;
+mod inherited;
+mod joined_rows;
 mod known;
 mod laws;
+mod mentions;
 mod names;
 mod part_names;
 mod type_links;
+
 mod used_names;
 mod node_laws;
 mod place_laws;

@@ -1,9 +1,9 @@
 -- The rows of a part's graph, by its views.
-use Rattle.std.proofs.Common.{◌≡◌, ℕ, zero, suc, ◌+◌, ◌<◌, List, [], ◌∷◌, ◌++◌, length, get_or, take, drop, refl, sym, ap, subst, ◌∙◌, inl, inr, cond, arith}
+use Rattle.std.proofs.Common.{◌≡◌, ℕ, zero, suc, ◌<◌, List, [], ◌∷◌, length, get_or, refl, sym, ap, subst, ◌∙◌, inl, inr, cond, arith}
 use Rattle.std.specs.Prelude.{map, flat_map, Option, Some, None, option_map, slice_get, Bool, ◌||◌}
-use Rattle.std.proofs.lemmas.Option.{slice_get-map, get_or_from_slice_get, slice_get_within}
-use Rattle.std.proofs.lemmas.List.{length-map, get_or_default}
-use Rattle.fcg_grammar.specs.Table.{table, place}
+use Rattle.std.proofs.lemmas.Option.{slice_get-map, get_or_from_slice_get}
+use Rattle.std.proofs.lemmas.List.{length-map}
+use Rattle.fcg_grammar.specs.Table.{place}
 use Rattle.fcg_grammar.proofs.Among.{Among, among_left, among_right, among_flat}
 use Rattle.fcg_grammar.proofs.TableLaws.{table_among, at_place}
 use Rattle.fcg_views.specs.declared.view.View.{View}
@@ -101,12 +101,29 @@ pub head_made : (p : PartShown) (i k : ℕ) (v : View) → HasView p k v → (na
     → ◌≡◌ {A = TypeHead} (record { part = i; place = k; name = get_or numbers row.name 0; flags = row.flags; is_object = o; superclass = s; methods = row.methods }) (head_of names i k (placed_view p v))
 head_made p i k v h names numbers e row r o oe s se =
     let name : get_or numbers row.name 0 ≡ place names v.name =
-        ap (λ (q : TypeRow). get_or numbers q.name 0) r ∙ ap (λ ns. get_or ns (place (part_names p) v.name) 0) e ∙ numbered names (part_names p) v.name 0 (named p k v h v.name (inl refl)) in
+    ap (λ (q : TypeRow). get_or numbers q.name 0) r ∙ ap (λ ns. get_or ns (place (part_names p) v.name) 0) e ∙ numbered names (part_names p) v.name 0 (named p k v h v.name (inl refl)) in
     let flags : row.flags ≡ v.flags = ap (λ (q : TypeRow). q.flags) r in
     let methods : row.methods ≡ length v.methods = ap (λ (q : TypeRow). q.methods) r in
     let super : s ≡ cond (same object_name v.name || has 0x0200 v.flags) None (option_map (place names) v.superclass) =
-        se ∙ ap (λ (q : TypeRow). cond (o || has 0x0200 q.flags) None (option_map (λ k. get_or numbers k 0) q.superclass)) r
-        ∙ ap (λ b. cond (b || has 0x0200 v.flags) None (option_map (λ k. get_or numbers k 0) (super_number_of (part_names p) v.superclass))) oe
-        ∙ ap (λ ns. cond (same object_name v.name || has 0x0200 v.flags) None (option_map (λ k. get_or ns k 0) (super_number_of (part_names p) v.superclass))) e
-        ∙ ap (λ m. cond (same object_name v.name || has 0x0200 v.flags) None m) (super_numbered names (part_names p) v.superclass (λ x a. named p k v h x (inr (among_left x (names_of_super v.superclass) _ a)))) in
+    se ∙ ap (λ (q : TypeRow). cond (o || has 0x0200 q.flags) None (option_map (λ k. get_or numbers k 0) q.superclass)) r
+    ∙ ap (λ b. cond (b || has 0x0200 v.flags) None (option_map (λ k. get_or numbers k 0) (super_number_of (part_names p) v.superclass))) oe
+    ∙ ap (λ ns. cond (same object_name v.name || has 0x0200 v.flags) None (option_map (λ k. get_or ns k 0) (super_number_of (part_names p) v.superclass))) e
+    ∙ ap (λ m. cond (same object_name v.name || has 0x0200 v.flags) None m) (super_numbered names (part_names p) v.superclass (λ x a. named p k v h x (inr (among_left x (names_of_super v.superclass) _ a)))) in
     λ j. record { part = i; place = k; name = name j; flags = flags j; is_object = oe j; superclass = super j; methods = methods j }
+
+-- the name of a superclass is back
+pub super_back : (p : PartShown) (k : ℕ) (v : View) → HasView p k v → (n : ℕ) (y : List ℕ) → Some n ≡ super_number_of (part_names p) v.superclass → slice_get (part_names p) n ≡ Some y → Some y ≡ v.superclass
+super_back p k v h n y e f = at v.superclass (λ x a. named p k v h x (inr (among_left x (names_of_super v.superclass) _ a))) e
+  where
+    at : (s : Option (List ℕ)) → ((x : List ℕ) → Among x (names_of_super s) → Among x (part_names p)) → Some n ≡ super_number_of (part_names p) s → Some y ≡ s
+    at None a e = absurd cc
+    at (Some x) a e =
+        let number : n ≡ place (part_names p) x = cc in
+        ap (λ (z : List ℕ). Some z) (name_back (part_names p) x y (a x (inl refl)) (subst (λ (m : ℕ). slice_get (part_names p) m ≡ Some y) number f))
+
+pub super_none : (p : PartShown) (v : View) → None ≡ super_number_of (part_names p) v.superclass → None ≡ v.superclass
+super_none p v e = at v.superclass e
+  where
+    at : (s : Option (List ℕ)) → None ≡ super_number_of (part_names p) s → None ≡ s
+    at None e = refl
+    at (Some x) e = absurd cc

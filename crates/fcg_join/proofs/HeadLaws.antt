@@ -1,11 +1,11 @@
 -- Types of parts by numbers.
 use Rattle.std.proofs.Common.{◌≡◌, ℕ, zero, suc, ◌+◌, ◌<◌, ◌≤◌, List, [], ◌∷◌, ◌++◌, length, get_or, set, drop, refl, sym, ap, subst, ◌∙◌, inl, inr, cond, arith}
-use Rattle.std.specs.Prelude.{map, flat_map, Bool, true, false, ◌||◌, All, Option, Some, None, IfSome, option_map, slice_get, Contains}
+use Rattle.std.specs.Prelude.{map, flat_map, Bool, true, false, ◌||◌, All, Option, Some, None, IfSome, option_map, slice_get}
 use Rattle.std.specs.List.{AllZip}
-use Rattle.std.proofs.lemmas.Option.{get_or_from_slice_get, slice_get_within, slice_get-get_or, slice_get-map, same_Some}
+use Rattle.std.proofs.lemmas.Option.{get_or_from_slice_get, slice_get-get_or, slice_get-map, same_Some}
 use Rattle.std.proofs.lemmas.Bool.{cases_eq}
-use Rattle.std.proofs.lemmas.List.{length-map, append_assoc, drop_more, length-set, get_or-set_same, get_or-set_other}
-use Rattle.fcg_grammar.specs.Table.{table, place}
+use Rattle.std.proofs.lemmas.List.{append_assoc, drop_more, length-set, get_or-set_same, get_or-set_other}
+use Rattle.fcg_grammar.specs.Table.{place}
 use Rattle.fcg_grammar.proofs.Among.{Among, among_flat, among_left, among_right, among_at}
 use Rattle.fcg_grammar.proofs.TableLaws.{table_among, at_place}
 use Rattle.fcg_views.specs.declared.view.View.{View}
@@ -13,19 +13,19 @@ use Rattle.fcg_partial.specs.Parts.{PartShown}
 use Rattle.fcg_partial.specs.Views.{names_of_view, names_of_super}
 use Rattle.fcg_analysis.specs.Declarations.{Placed, is_object, is_interface, interface_names}
 use Rattle.fcg_analysis.specs.Types.{winners}
-use Rattle.fcg_analysis.proofs.General.Members.{IsIn, IsIn-from_Contains}
+use Rattle.fcg_analysis.proofs.General.Members.{IsIn}
 use Rattle.fcg_join.specs.declared.heads.TypeHead.{TypeHead}
 use Rattle.fcg_join.specs.Parts.{placed_view, placed_of, placed}
 use Rattle.fcg_join.specs.PartNames.{part_names, all_names, set_names, names_by_number}
 use Rattle.fcg_join.specs.PartRows.{HasView}
-use Rattle.fcg_join.specs.TypeHeads.{head_of, heads_in, heads_of, IsHead, no_head, used_superclass}
-use Rattle.fcg_join.specs.TypeNumbers.{AreHeads, FindsFirst, FindsHeads, head_at, type_numbered}
+use Rattle.fcg_join.specs.TypeHeads.{head_of, heads_in, heads_of, IsHead, used_superclass}
+use Rattle.fcg_join.specs.TypeNumbers.{AreHeads, FindsFirst, FindsHeads, head_at}
 use Rattle.fcg_join.specs.Winners.{name_number, first_marks_after, marked}
 use Rattle.fcg_join.specs.Internal.Collected.{collected}
 use Rattle.fcg_join.proofs.CollectedLaws.{From, later, here, from_start}
 use Rattle.fcg_join.proofs.GraphRows.{named, among_item}
 use Rattle.fcg_join.proofs.Firsts.{first_winners}
-use Rattle.fcg_join.proofs.ZipLaws.{zip_right, zip_left, zip_long, zip_both, zip_map, zip_marked}
+use Rattle.fcg_join.proofs.ZipLaws.{zip_left, zip_both, zip_map, zip_marked}
 
 pub all_of_map : {X : Type 0} (f : X → ℕ) (count : ℕ) (xs : List X) → All (λ x. f x < count) xs → All (λ n. n < count) (map f xs)
 all_of_map f count [] h = λ k d l. absurd (omega arith)

@@ -1,8 +1,10 @@
 -- The winners and the known types are few, and a table of names has so many places.
-use Rattle.std.proofs.Common.{◌≡◌, ℕ, suc, ◌<◌, ◌≤◌, List, [], ◌∷◌, ◌++◌, length, get_or, sym, ap, subst, ◌∙◌, cond, arith}
-use Rattle.std.specs.Prelude.{Bool, true, false, not, All, map, flat_map}
+use Rattle.std.proofs.Common.{◌≡◌, ℕ, ◌+◌, ◌<◌, ◌≤◌, List, [], ◌∷◌, ◌++◌, length, get_or, drop, sym, ap, ◌∙◌, cond, arith}
+use Rattle.std.specs.Prelude.{true, false, not, flat_map}
 use Rattle.std.specs.List.{list_any}
-use Rattle.std.proofs.lemmas.List.{length-map, length-append}
+use Rattle.std.proofs.lemmas.List.{length-map, length-append, drop_more, drop_all}
+use Rattle.std.specs.declared.cmp.Ordering.TheVariants.{Less, Equal, Greater}
+use Rattle.fcg_grammar.specs.Table.{order, by, put, table}
 use Rattle.fcg_views.specs.declared.view.View.{View}
 use Rattle.fcg_partial.specs.Views.{text_of}
 use Rattle.fcg_partial.proofs.SizeLaws.{has_at_most}
@@ -61,3 +63,27 @@ are_few (p ∷ ps) =
       names_few = (let b = r.names_few in let d = a.names in omega arith);
       views_few = (let b = r.views_few in let d = a.types in omega arith);
     }
+
+put_long : (x : List ℕ) (ys : List (List ℕ)) → length (put x ys) ≤ length ys + 1
+put_long x [] = omega arith
+put_long x (y ∷ ys) =
+    let r = put_long x ys in
+    elim (order x y) as (λ o. length (by o (x ∷ y ∷ ys) (y ∷ ys) (y ∷ put x ys)) ≤ length (y ∷ ys) + 1) [ Less ↦ omega arith | Equal ↦ omega arith | Greater ↦ omega arith ]
+
+table_long : (xs : List (List ℕ)) → length (table xs) ≤ length xs
+unfolding table
+table_long [] = omega arith
+table_long (x ∷ xs) = (let a = put_long x (table xs) in let b = table_long xs in omega arith)
+
+pub few_set_names : (parts : List PartShown) → length (set_names parts) ≤ length (all_names parts)
+unfolding set_names
+few_set_names parts = table_long (all_names parts)
+
+-- the bytes of the parts that are left
+pub encoded_more : (ps : List PartShown) (i : ℕ) (p : PartShown) → i < length ps → p ≡ get_or ps i p → encoded_len (drop i ps) ≡ length (text_of p.views) + encoded_len (drop (i + 1) ps)
+unfolding encoded_len
+encoded_more ps i p l e = ap encoded_len (drop_more ps i p l) ∙ ap (λ (q : PartShown). length (text_of q.views) + encoded_len (drop (i + 1) ps)) (sym e)
+
+pub encoded_none : (ps : List PartShown) (i : ℕ) → length ps ≤ i → encoded_len (drop i ps) ≡ 0
+unfolding encoded_len
+encoded_none ps i l = ap encoded_len (drop_all i ps l)

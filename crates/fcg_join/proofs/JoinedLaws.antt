@@ -1,21 +1,24 @@
 -- What the tables of types say by numbers is what the definitions say.
-use Rattle.std.proofs.Common.{◌≡◌, ℕ, ◌<◌, List, [], ◌∷◌, length, get_or, refl, sym, ap, subst, ◌∙◌, inl, inr, cond, drop, arith}
-use Rattle.std.specs.Prelude.{Bool, true, false, not, ◌&&◌, ◌||◌, All, Option, Some, None, IfSome, find, filter, option_to_list, slice_get, Contains, map}
+use Rattle.std.proofs.Common.{◌≡◌, ℕ, ◌<◌, List, [], ◌∷◌, length, get_or, refl, sym, ap, subst, ◌∙◌, cond, drop}
+use Rattle.std.specs.Prelude.{Bool, true, false, not, ◌&&◌, ◌||◌, All, Option, Some, None, IfSome, find, filter, option_to_list, slice_get, Contains}
 use Rattle.std.specs.List.{IsDistinct, AllZip}
 use Rattle.std.specs.Cmp.Lexicographic.{bytes_decides}
 use Rattle.std.proofs.lemmas.Option.{get_or_from_slice_get, slice_get_within, slice_get-get_or, same_Some}
+use Rattle.fcg_grammar.specs.Table.{place}
+use Rattle.fcg_grammar.proofs.Among.{Among, Contains-among, among_at}
+use Rattle.fcg_grammar.proofs.TableLaws.{place_at, table_rises}
 use Rattle.fcg_partial.specs.Parts.{PartShown}
 use Rattle.fcg_analysis.specs.NamesAndFlags.{same, first_of_list}
-use Rattle.fcg_analysis.specs.Declarations.{Placed, is_type, is_object, is_interface, is_class, object_name}
-use Rattle.fcg_analysis.specs.Types.{object, superclass, extends, chain}
+use Rattle.fcg_analysis.specs.Declarations.{Placed, is_named, is_type, is_object, is_interface, is_class, object_name}
+use Rattle.fcg_analysis.specs.Types.{object, superclass, extends, type_named}
 use Rattle.fcg_analysis.specs.Laws.Statements.{IsAcyclic, chain_above}
 use Rattle.fcg_analysis.specs.Laws.ChainParts.{next_in_chain}
-use Rattle.fcg_analysis.proofs.General.Members.{IsIn, IsIn-from_Contains, Contains-from_IsIn, find_in, and_first, and_second}
+use Rattle.fcg_analysis.proofs.General.Members.{IsIn, IsIn-from_Contains, Contains-from_IsIn, find_in, and_first}
 use Rattle.fcg_analysis.proofs.General.Finding.{find_only}
 use Rattle.fcg_analysis.proofs.ChainLaws.{chain_goes_on}
 use Rattle.fcg_analysis.proofs.OverrideLaws.{one_of_name}
 use Rattle.fcg_join.specs.declared.heads.TypeHead.{TypeHead}
-use Rattle.fcg_join.specs.PartNames.{set_names}
+use Rattle.fcg_join.specs.PartNames.{all_names, set_names}
 use Rattle.fcg_join.specs.TypeHeads.{IsHead, no_head, used_superclass}
 use Rattle.fcg_join.specs.TypeLinks.{HasTypeAt}
 use Rattle.fcg_join.specs.TypeNumbers.{AreHeads, FindsHeads, head_at, superclass_numbered}
@@ -23,8 +26,8 @@ use Rattle.fcg_join.specs.Joined.{IsTypeNumber}
 use Rattle.fcg_join.specs.Internal.Tables.{is_object_class, next_numbered}
 use Rattle.fcg_join.proofs.Places.{place_of, has_in}
 use Rattle.fcg_join.proofs.ZipLaws.{zip_left, zip_right}
-use Rattle.fcg_join.proofs.HeadLaws.{used_is}
-use Rattle.fcg_join.proofs.LinkLaws.{IsLinked, head_here, super_is, super_at}
+use Rattle.fcg_join.proofs.HeadLaws.{used_is, all_named}
+use Rattle.fcg_join.proofs.LinkLaws.{super_is, super_at, number_of_type, type_of_number}
 
 pub same_items : {X : Type 0} (xs ys : List X) → AllZip (λ x y. y ≡ x) xs ys → ys ≡ xs
 same_items [] [] all = refl
@@ -95,10 +98,10 @@ module _ (parts : List PartShown) (heads : List TypeHead) (types : List Placed) 
         at (Some z) q =
             let r = super_is parts heads types by_name are d f h t is z q in
             let one : (v : Placed) → IsIn v types → extends t v ≡ true → v ≡ r.type = λ v j b. (
-                let p = place_of types v (Contains-from_IsIn types v j) in
-                let s = super_at parts heads types by_name are d f h t is p.0 v p.1 b in
-                let k : p.0 ≡ z = same_Some p.0 z (sym s ∙ q) in
-                same_Some v r.type (sym p.1 ∙ ap (slice_get types) k ∙ r.here)) in
+            let p = place_of types v (Contains-from_IsIn types v j) in
+            let s = super_at parts heads types by_name are d f h t is p.0 v p.1 b in
+            let k : p.0 ≡ z = same_Some p.0 z (sym s ∙ q) in
+            same_Some v r.type (sym p.1 ∙ ap (slice_get types) k ∙ r.here)) in
             let e : find (extends t) types ≡ Some r.type = find_only (extends t) types r.type (IsIn-from_Contains types r.type (has_in types z r.type r.here)) r.passes one in
             subst (λ (r : Option Placed). IsTypeNumber types (Some z) r) (sym e) r.here
 
@@ -140,3 +143,45 @@ module _ (parts : List PartShown) (heads : List TypeHead) (types : List Placed) 
         by_super None (Some u) e h = absurd h
         by_super (Some y) (Some u) e h =
             subst (λ (us : List Placed). IsTypeNumber types (Some y) (first_of_list us)) (sym (chain_goes_on types acyclic u (has_in types y u h))) h
+
+-- ---- the type of a name
+module _ (parts : List PartShown) (heads : List TypeHead) (types : List Placed) (are : AreHeads parts heads types) (d : IsDistinct is_type types)
+    (by_name : List (Option ℕ)) (f : FindsHeads heads by_name (length (set_names parts))) (n : List ℕ) where
+  one_named : (u : Placed) → IsIn u types → u.view.name ≡ n → (v : Placed) → IsIn v types → is_named n v ≡ true → v ≡ u
+  one_named u i e v j b = one_of_name types v u d j i ((bytes_decides v.view.name u.view.name).1 (sym ((bytes_decides n v.view.name).0 b) ∙ sym e))
+
+  pub gives_unnamed : (Contains (set_names parts) n → ⊥) → IsTypeNumber types None (type_named types n)
+  gives_unnamed h = at (find (is_named n) types) refl
+    where
+      at : (r : Option Placed) → find (is_named n) types ≡ r → IsTypeNumber types None r
+      at None e = tt
+      at (Some u) e =
+          let g = find_in (is_named n) types u e in
+          let a = subst (λ (m : List ℕ). Among m (set_names parts)) (sym ((bytes_decides n u.view.name).0 g.1)) (all_named parts heads types are u g.0) in
+          h (Contains-among n (set_names parts) a)
+
+  pub gives_named : (k : ℕ) → slice_get (set_names parts) k ≡ Some n → IsTypeNumber types (get_or by_name k None) (type_named types n)
+  unfolding set_names
+  gives_named k e =
+      let l = slice_get_within (set_names parts) k n e in
+      let here = get_or_from_slice_get (set_names parts) k n [] e in
+      let number : place (set_names parts) n ≡ k = ap (place (set_names parts)) (sym here) ∙ place_at (set_names parts) k [] (table_rises (all_names parts)) l in
+      let a : Among n (set_names parts) = subst (λ (m : List ℕ). Among m (set_names parts)) here (among_at (set_names parts) k [] l) in
+      at a (get_or by_name k None) (ap (λ i. get_or by_name i None) number)
+    where
+      none : get_or by_name (place (set_names parts) n) None ≡ None → (r : Option Placed) → find (is_named n) types ≡ r → IsTypeNumber types None r
+      none q None e = tt
+      none q (Some u) e =
+          let g = find_in (is_named n) types u e in
+          let p = place_of types u (Contains-from_IsIn types u g.0) in
+          let s = number_of_type parts heads types by_name are d f p.0 u p.1 in
+          let t : get_or by_name (place (set_names parts) n) None ≡ Some p.0 = ap (λ m. get_or by_name (place (set_names parts) m) None) ((bytes_decides n u.view.name).0 g.1) ∙ s in
+          absurd cc
+
+      at : Among n (set_names parts) → (o : Option ℕ) → get_or by_name (place (set_names parts) n) None ≡ o → IsTypeNumber types o (type_named types n)
+      at a None q = none q (find (is_named n) types) refl
+      at a (Some y) q =
+          let r = type_of_number parts heads types by_name are d f n a y q in
+          let i = IsIn-from_Contains types r.type (has_in types y r.type r.here) in
+          let e : find (is_named n) types ≡ Some r.type = find_only (is_named n) types r.type i ((bytes_decides n r.type.view.name).1 (sym r.name)) (one_named r.type i r.name) in
+          subst (λ (o : Option Placed). IsTypeNumber types (Some y) o) (sym e) r.here

@@ -29,3 +29,6 @@ pub mod JoinedRowLaws
 pub mod OwnMentions
 pub mod BelowLaws
 pub mod BelowNumbers
+pub mod TableAnswers
+pub mod SearchNames
+pub mod NodeTableLaws

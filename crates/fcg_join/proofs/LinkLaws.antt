@@ -1,11 +1,11 @@
 -- The links by numbers are those of the types.
-use Rattle.std.proofs.Common.{◌≡◌, ℕ, zero, suc, ◌<◌, List, [], ◌∷◌, ◌++◌, length, get_or, refl, sym, ap, subst, ◌∙◌, inl, inr, cond, arith}
-use Rattle.std.specs.Prelude.{map, flat_map, Bool, true, false, not, ◌&&◌, ◌||◌, ◌↔◌, Option, Some, None, option_map, option_and_then, option_to_list, slice_get, Contains}
-use Rattle.std.specs.List.{IsDistinct, AllZip}
+use Rattle.std.proofs.Common.{◌≡◌, ℕ, zero, suc, ◌<◌, List, [], ◌∷◌, length, get_or, refl, sym, ap, subst, ◌∙◌, inl, inr, cond, arith}
+use Rattle.std.specs.Prelude.{map, Bool, true, false, not, ◌||◌, Option, Some, None, option_map, option_and_then, option_to_list, slice_get, Contains}
+use Rattle.std.specs.List.{IsDistinct}
 use Rattle.std.specs.Cmp.Lexicographic.{bytes_decides}
 use Rattle.std.proofs.lemmas.Option.{get_or_from_slice_get, slice_get_within, slice_get-get_or, slice_get-map, same_Some}
 use Rattle.std.proofs.lemmas.Bool.{or_cases, or_left, or_right, and_from}
-use Rattle.std.proofs.lemmas.List.{length-map, get_or_past}
+use Rattle.std.proofs.lemmas.List.{length-map}
 use Rattle.fcg_grammar.specs.Table.{place}
 use Rattle.fcg_grammar.proofs.Among.{Among}
 use Rattle.fcg_partial.specs.Parts.{PartShown}
@@ -15,7 +15,7 @@ use Rattle.fcg_analysis.specs.Declarations.{Placed, is_type, is_class, is_interf
 use Rattle.fcg_analysis.specs.Types.{links, extends, implements}
 use Rattle.fcg_analysis.proofs.General.Members.{IsIn, IsIn-from_Contains, Contains-from_IsIn, any_in, in_any, and_first, and_second, append_left, append_right, in_append, flat_map_in, in_flat_map}
 use Rattle.fcg_analysis.proofs.OverrideLaws.{one_of_name}
-use Rattle.fcg_order.specs.Links.{HasLink, IsWithin}
+use Rattle.fcg_order.specs.Links.{HasLink}
 use Rattle.fcg_join.specs.declared.heads.TypeHead.{TypeHead}
 use Rattle.fcg_join.specs.PartNames.{set_names}
 use Rattle.fcg_join.specs.TypeHeads.{IsHead, no_head, used_superclass}
@@ -57,7 +57,9 @@ module _ (parts : List PartShown) (heads : List TypeHead) (types : List Placed) 
       let r = f.found (place N n) y e in
       let u = zip_left (IsHead parts N) heads types are y (head_at heads y) (slice_get-get_or heads y no_head r.0) in
       record {
-        type = u.0; here = u.1; head = u.2;
+        type = u.0;
+        here = u.1;
+        head = u.2;
         name = same_names N u.0.view.name n (head_named parts (head_at heads y) u.0 u.2) a (sym (head_name parts (head_at heads y) u.0 u.2) ∙ r.1);
       }
 
@@ -140,7 +142,8 @@ module _ (parts : List PartShown) (heads : List TypeHead) (types : List Placed) 
         at false (Some n) a e q =
             let r = class_is n (a n (inl refl)) y e in
             record {
-              type = r.0.type; here = r.0.here;
+              type = r.0.type;
+              here = r.0.here;
               passes = and_from (is_class r.0.type) (contains r.0.type.view.name (superclass_names t)) r.1
                   (ap (contains r.0.type.view.name) q ∙ or_left (same r.0.type.view.name n) false ((bytes_decides r.0.type.view.name n).1 r.0.name));
             }
@@ -171,7 +174,8 @@ module _ (parts : List PartShown) (heads : List TypeHead) (types : List Placed) 
         let m = in_flat_map (λ n. option_to_list (interface_numbered heads by_name (place N n))) (interface_names t) y i in
         let r = interface_is m.0 (names_named m.0 (in_among m.0 (interface_names t) m.1)) y (in_option (interface_numbered heads by_name (place N m.0)) y m.2) in
         record {
-          type = r.0.type; here = r.0.here;
+          type = r.0.type;
+          here = r.0.here;
           passes = and_from (is_interface r.0.type) (contains r.0.type.view.name (interface_names t)) r.1
               (any_in (same r.0.type.view.name) (interface_names t) m.0 m.1 ((bytes_decides r.0.type.view.name m.0).1 r.0.name));
         }
@@ -203,7 +207,7 @@ module _ (parts : List PartShown) (heads : List TypeHead) (types : List Placed) 
     within = record { each = λ x y l. within x y (slice_get types x) refl l };
     each = λ x y t u a b. (
       (λ c. (let r = linked_in (head_at heads x) t (head_here x t a) y (IsIn-from_Contains (links_numbered N heads by_name t) y (subst (λ ns. Contains ns y) (row_is x t a) c)) in
-      ap (links t) (same_Some u r.type (sym b ∙ r.here)) ∙ r.passes)),
+          ap (links t) (same_Some u r.type (sym b ∙ r.here)) ∙ r.passes)),
       (λ q. subst (λ ns. Contains ns y) (sym (row_is x t a)) (Contains-from_IsIn (links_numbered N heads by_name t) y (in_linked (head_at heads x) t (head_here x t a) y u b q))),
     );
   }

@@ -1,16 +1,15 @@
 -- The names of parts, by their places and by their numbers.
 use Rattle.std.proofs.Common.{◌≡◌, ℕ, zero, suc, ◌+◌, ◌<◌, ◌≤◌, List, [], ◌∷◌, ◌++◌, length, get_or, take, drop, refl, sym, ap, subst, ◌∙◌, arith}
-use Rattle.std.specs.Prelude.{map, All, slice_get, Some}
+use Rattle.std.specs.Prelude.{map, All}
 use Rattle.std.specs.List.{AllByRecursion, range_with_len}
 use Rattle.std.proofs.lemmas.List.{map-append, get_or_default, length-map, length-append, drop_more, take_at, drop_at}
-use Rattle.std.proofs.lemmas.List.Concat.{flat_map-cons}
 use Rattle.std.proofs.lemmas.List.Elements.{All-from_recursion}
 use Rattle.std.proofs.lemmas.Option.{get_or_from_slice_get}
-use Rattle.fcg_grammar.specs.Table.{table, place}
+use Rattle.fcg_grammar.specs.Table.{table}
 use Rattle.fcg_partial.specs.Parts.{PartShown}
 use Rattle.fcg_join.specs.declared.part_names.NamePlace.{NamePlace}
 use Rattle.fcg_join.specs.Names.{text_at, AreNumbered}
-use Rattle.fcg_join.specs.PartNames.{part_names, all_names, set_names, names_by_number, places_in, IsNamePlace, name_there, no_part, no_place}
+use Rattle.fcg_join.specs.PartNames.{part_names, all_names, set_names, places_in, IsNamePlace, name_there, no_part, no_place}
 use Rattle.fcg_join.specs.Internal.Collected.{collected}
 use Rattle.fcg_join.proofs.CollectedLaws.{From, later, here, from_start, map_twice, all_both, all_ranged, by_places, same_map, all_picked}
 

@@ -1,5 +1,5 @@
 -- Two lists, place by place.
-use Rattle.std.proofs.Common.{◌≡◌, ℕ, zero, suc, ◌<◌, List, [], ◌∷◌, ◌++◌, length, get_or, refl, sym, ap, subst, ◌∙◌, cond, arith}
+use Rattle.std.proofs.Common.{◌≡◌, ℕ, zero, suc, List, [], ◌∷◌, ◌++◌, length, refl, ap, subst}
 use Rattle.std.specs.Prelude.{Bool, true, false, map, slice_get, Some}
 use Rattle.std.specs.List.{AllZip}
 use Rattle.fcg_join.specs.Winners.{marked}

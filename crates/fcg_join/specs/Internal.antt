@@ -6,3 +6,5 @@ pub mod Gaps
 pub mod Mentions
 pub mod Below
 pub mod Inherited
+pub mod Searched
+pub mod Nodes

@@ -1,5 +1,5 @@
 -- The rows of a part's types, by its views.
-use Rattle.std.specs.Prelude.{◌≡◌, ℕ, List, length, Some, slice_get}
+use Rattle.std.specs.Prelude.{◌≡◌, ℕ, length, Some, slice_get}
 use Rattle.fcg_views.specs.declared.view.View.{View}
 use Rattle.fcg_partial.specs.declared.row.TypeRow.{TypeRow}
 use Rattle.fcg_partial.specs.Parts.{PartShown}

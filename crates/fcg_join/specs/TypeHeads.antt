@@ -1,5 +1,5 @@
 -- Types by numbers, without the lists of interfaces and of methods.
-use Rattle.std.specs.Prelude.{◌≡◌, ℕ, List, [], ◌∷◌, Option, None, Bool, false, ◌||◌, map, length, option_map, Some, slice_get, slice_index_or, if◌then◌else◌}
+use Rattle.std.specs.Prelude.{◌≡◌, ℕ, List, [], ◌∷◌, Option, None, false, ◌||◌, length, option_map, Some, slice_get, if◌then◌else◌}
 use Rattle.fcg_grammar.specs.Table.{place}
 use Rattle.fcg_views.specs.declared.view.View.{View}
 use Rattle.fcg_partial.specs.Parts.{PartShown}

@@ -1,5 +1,5 @@
 -- Types by numbers: which type has a name, and to which types one links.
-use Rattle.std.specs.Prelude.{◌≡◌, ℕ, ◌<◌, List, [], ◌++◌, Option, Some, None, map, flat_map, length, option_and_then, option_to_list, slice_index_or, if◌then◌else◌}
+use Rattle.std.specs.Prelude.{◌≡◌, ℕ, ◌<◌, List, ◌++◌, Option, Some, None, flat_map, length, option_and_then, option_to_list, slice_index_or, if◌then◌else◌}
 use Rattle.std.specs.List.{AllZip}
 use Rattle.fcg_grammar.specs.Table.{place}
 use Rattle.fcg_partial.specs.Parts.{PartShown}

@@ -3,11 +3,11 @@ ghost use Rattle.std.specs.Prelude.{◌≡◌, ◌<◌, ◌^◌, ◌++◌, ◌||
 ghost use Rattle.fcg_grammar.specs.Table.{place};
 ghost use Rattle.fcg_views.specs.declared.view.View.{View};
 ghost use Rattle.fcg_analysis.specs.NamesAndFlags.{same, has};
-ghost use Rattle.fcg_analysis.specs.Declarations.{object_name};
+ghost use Rattle.fcg_analysis.specs.Declarations.{Placed, object_name};
 ghost use Rattle.fcg_join.specs.Parts.{placed_view};
 ghost use Rattle.fcg_join.specs.PartNames.{part_names, set_names, names_by_number};
 ghost use Rattle.fcg_join.specs.PartRows.{HasView, row_of_view};
-ghost use Rattle.fcg_join.specs.TypeHeads.{head_of, heads_in, heads_of};
+ghost use Rattle.fcg_join.specs.TypeHeads.{head_of, heads_in, heads_of, IsHead};
 
 use fcg_order::Links as Rows;
 use fcg_partial::{Part, PartialGraph, TypeRow};
@@ -43,7 +43,7 @@ pub(crate) fn is_interface(flags: u16) -> bool
     flags & INTERFACE != 0
 }
 
-fn is_object_name(name: &[u8]) -> bool
+pub(crate) fn is_object_name(name: &[u8]) -> bool
     ensures { result ≡ same object_name name.now }
 {
     OBJECT == name
@@ -72,6 +72,35 @@ pub(crate) fn type_name(part: &Part, k: u32) -> &[u8]
     ensures { (v : View) → HasView part.now k v → result.now ≡ v.name }
 {
     graph(part).name_at(load_type(part, k).name)
+}
+
+// The name of a type's superclass.
+fn superclass_name(part: &Part, k: u32) -> Option<&[u8]>
+    requires { k < length part.now.views }
+    ensures { (v : View) → HasView part.now k v → option_map (λ n. n.now) result ≡ v.superclass }
+{
+    match load_type(part, k).superclass {
+        Some(n) => Some(graph(part).name_at(n)),
+        None => None,
+    }
+}
+
+// The name of a type of the parts.
+pub(crate) fn name_of_head<'a>(parts: &'a [Part], head: &TypeHead) -> &'a [u8]
+    requires { (t : Placed) × IsHead parts.now (set_names parts.now) head.now t }
+    ensures { (t : Placed) → IsHead parts.now (set_names parts.now) head.now t → result.now ≡ t.view.name }
+{
+    let part = &parts[head.part as usize];
+    type_name(part, head.place)
+}
+
+// The name of its superclass.
+pub(crate) fn superclass_name_of_head<'a>(parts: &'a [Part], head: &TypeHead) -> Option<&'a [u8]>
+    requires { (t : Placed) × IsHead parts.now (set_names parts.now) head.now t }
+    ensures { (t : Placed) → IsHead parts.now (set_names parts.now) head.now t → option_map (λ n. n.now) result ≡ t.view.superclass }
+{
+    let part = &parts[head.part as usize];
+    superclass_name(part, head.place)
 }
 
 // How many interfaces a type has.

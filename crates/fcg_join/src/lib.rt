@@ -1,6 +1,8 @@
-//! The beginning of joining: the types of a set, read together by numbers. Names are numbered in the order of their bytes, and
-//! winners are found by the numbers of their names. Laws say which other tables by numbers are those of the rules of the
-//! analysis: circles and known types, links, gaps, and what is at or below a name. The crate stands on the words of formats,
+//! Joining: the types of a set, read together from stored graphs by numbers. Names are numbered in the order of their bytes
+//! over all parts, winners are found by the numbers of their names, circular types by one search, and links, chains and
+//! nodes by tables of numbers. What was joined is seen as its parts, and each accessor by the rules of the analysis. Laws say
+//! which tables by numbers are those of these rules: circles and known types, links, gaps, what is at or below a name, nodes,
+//! declared methods and superinterface methods. The crate stands on the words of formats, on the views and the stored graphs,
 //! on the rules of the analysis, and on links by numbers.
 #![tactic(auto)]
 
@@ -9,22 +11,25 @@ mod gaps;
 mod heads;
 mod id;
 mod inherited;
+mod joined;
+mod joined_below;
 mod joined_rows;
 mod known;
 mod laws;
 mod mentions;
 mod names;
-mod part_names;
-mod type_links;
-
-mod used_names;
 mod node_laws;
+mod nodes;
+mod part_names;
 mod place_laws;
 mod table_laws;
 mod tables;
+mod type_links;
+mod used_names;
 mod winners;
 
 pub use id::{MethodId, TypeId};
+pub use joined::Joined;
 pub use laws::{
     below_by_tables, circles_by_numbers, gaps_by_tables, known_by_marks, links_by_names,
     marks_are_upward, upward_tables, winners_by_numbers,

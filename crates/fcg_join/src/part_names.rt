@@ -1,6 +1,6 @@
 //! The names of parts, by numbers of the set.
-ghost use Rattle.std.specs.Prelude.{◌≡◌, ◌<◌, ◌≤◌, ◌+◌, ◌^◌, ◌++◌, length, map, All, IfOk, OnOk, slice_index_or};
-ghost use Rattle.fcg_grammar.specs.Table.{place};
+ghost use Rattle.std.specs.Prelude.{◌≡◌, ◌<◌, ◌≤◌, ◌+◌, ◌^◌, ◌++◌, length, map, All, Contains, Some, None, IfOk, OnOk, IfSome, slice_get, slice_index_or};
+ghost use Rattle.fcg_grammar.specs.Table.{order, place, Rises};
 ghost use Rattle.fcg_join.specs.Names.{texts_of};
 ghost use Rattle.fcg_join.specs.Internal.Collected.{collected};
 ghost use Rattle.fcg_join.specs.PartNames.{part_names, all_names, set_names, names_by_number, places_in, no_place, IsNamePlace, AreSetNames, name_there};
@@ -9,6 +9,7 @@ use crate::names::number_names;
 use fcg_order::Links as Rows;
 use fcg_partial::Part;
 use std::alloc::{AllocError, Global};
+use std::cmp::Ordering;
 
 /// Where a name stands: a part, by its place, and the name's number in the part's graph.
 #[derive(Clone, Copy)]
@@ -124,4 +125,33 @@ pub(crate) fn number_part_names(alloc: Global, parts: &[Part]) -> Result<SetName
         numbers: cut_rows(alloc, parts, &found.numbers)?,
         places: pick_places(alloc, &places, &found.places)?,
     })
+}
+
+// How the name at a place compares with a name.
+fn compare_name(parts: &[Part], place: NamePlace, name: &[u8]) -> Ordering
+    requires { IsNamePlace parts.now place }
+    ensures { result ≡ order (name_there parts.now place) name.now }
+{
+    name_there(parts, place).cmp(name)
+}
+
+// The number of a name, by a search in the places of names that rise.
+pub(crate) fn find_name(parts: &[Part], places: &[NamePlace], name: &[u8]) -> Option<u32>
+    requires there { All (IsNamePlace parts.now) places.now }
+    requires few { length places.now < 2 ^ 32 }
+    requires rise { Rises (map (name_there parts.now) places.now) }
+    ensures found { IfSome result (λ k. slice_get (map (name_there parts.now) places.now) k ≡ Some name.now) }
+    ensures none { result ≡ None → Contains (map (name_there parts.now) places.now) name.now → ⊥ }
+{
+    let mut low = 0;
+    let mut high = places.len();
+    while low < high {
+        let middle = low + (high - low) / 2;
+        match compare_name(parts, places[middle], name) {
+            Ordering::Equal => return Some(middle as u32),
+            Ordering::Less => low = middle + 1,
+            Ordering::Greater => high = middle,
+        }
+    }
+    None
 }

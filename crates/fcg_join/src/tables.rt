@@ -5,13 +5,15 @@ ghost use Rattle.fcg_join.specs.Internal.Tables.{is_object_class, IsJoined};
 ghost use Rattle.fcg_join.specs.TypeNumbers.{head_at};
 
 use crate::heads::{TypeHead, is_interface};
+use crate::inherited::{InheritedTables, find_inherited};
 use crate::known::{TypeLinks, find_known, link_types};
+use crate::nodes::{NodeTables, number_nodes};
 use crate::part_names::{SetNames, number_part_names};
 use crate::type_links::find_superclasses;
 use fcg_partial::Part;
 use std::alloc::{AllocError, Global};
 
-/// The known types of some parts, in their order, with their names and their links.
+/// The known types of some parts, in their order, with their names, their links and their nodes.
 #[derive(Drop)]
 pub struct TypeTables {
     pub names: SetNames,
@@ -21,6 +23,8 @@ pub struct TypeTables {
     pub superclasses: Vec<Option<u32>>,
     /// Object, where it is known as a class.
     pub object: Option<u32>,
+    pub nodes: NodeTables,
+    pub inherited: InheritedTables,
 }
 
 // Whether it is Object, and a class.
@@ -54,11 +58,15 @@ pub(crate) fn make_tables(alloc: Global, parts: &[Part]) -> Result<TypeTables, A
     let linked = link_types(alloc, parts, &names, heads.as_slice())?;
     let superclasses = find_superclasses(alloc, heads.as_slice(), linked.by_name.as_slice())?;
     let object = find_object(heads.as_slice());
+    let nodes = number_nodes(alloc, heads.as_slice())?;
+    let inherited = find_inherited(alloc, parts, &names.numbers, heads.as_slice(), &linked)?;
     Ok(TypeTables {
         names,
         heads,
         linked,
         superclasses,
         object,
+        nodes,
+        inherited,
     })
 }

@@ -5,11 +5,13 @@ use Rattle.fcg_analysis.specs.NamesAndFlags.{has}
 use Rattle.fcg_analysis.specs.Types.{object}
 use Rattle.fcg_join.specs.declared.heads.TypeHead.{TypeHead}
 use Rattle.fcg_join.specs.declared.tables.TypeTables.{TypeTables}
-use Rattle.fcg_join.specs.Parts.{types_of}
+use Rattle.fcg_join.specs.Parts.{types_of, nodes_of}
 use Rattle.fcg_join.specs.PartNames.{set_names, AreSetNames}
 use Rattle.fcg_join.specs.TypeLinks.{HasLinks}
 use Rattle.fcg_join.specs.TypeNumbers.{AreHeads, FindsHeads, superclass_numbered}
 use Rattle.fcg_join.specs.Joined.{IsTypeNumber}
+use Rattle.fcg_join.specs.Internal.Inherited.{AreInherited}
+use Rattle.fcg_join.specs.Internal.Nodes.{AreNodeTables}
 
 abbrev pub is_object_class : TypeHead → Bool
 is_object_class h = h.is_object && not (has 0x0200 h.flags)
@@ -19,14 +21,19 @@ superclasses_of heads by_name = map (λ h. superclass_numbered heads by_name h.s
 
 -- The tables are those of the known types of some parts.
 pub record IsJoined (parts : List PartShown) (t : TypeTables) : Type 0 where
+  pub few : length (types_of parts) < 2 ^ 32
+  pub few_names : length (set_names parts) < 2 ^ 32
   pub names : AreSetNames parts t.names
   pub heads : AreHeads parts t.heads.items (types_of parts)
   pub by_name : FindsHeads t.heads.items t.linked.by_name.items (length (set_names parts))
   pub links : HasLinks (types_of parts) t.linked.links
   pub superclasses : t.superclasses.items ≡ superclasses_of t.heads.items t.linked.by_name.items
   pub object' : IsTypeNumber (types_of parts) t.object (object (types_of parts))
+  pub few_nodes : length (nodes_of parts) < 2 ^ 32
+  pub nodes' : AreNodeTables (types_of parts) t.nodes.firsts.items t.nodes.owners.items
+  pub inherited' : AreInherited parts t.inherited
 
--- The next of a chain: the superclass, or else Object, where the type is neither Object nor an interface.
+-- the next of a chain: the superclass, or else Object, unless the chain ends
 abbrev pub next_numbered : Option ℕ → Bool → Option ℕ → Option ℕ
-next_numbered (Some y) none object = Some y
-next_numbered None none object = if none then None else object
+next_numbered (Some y) ends object = Some y
+next_numbered None ends object = if ends then None else object

@@ -1,4 +1,4 @@
-use Rattle.std.proofs.Common.{◌≡◌, ℕ, ◌<◌, List, [], ◌∷◌, ◌++◌, length, sym, ap, subst, ◌∙◌, refl, arith}
+use Rattle.std.proofs.Common.{ℕ, ◌<◌, [], ◌∷◌, ◌++◌, ap, subst, ◌∙◌, arith}
 use Rattle.fcg_join.specs.Parts.{placed_view}
 use Rattle.fcg_join.specs.TypeHeads.{head_of, heads_in}
 use Rattle.fcg_join.proofs.CollectedLaws.{collected_next, collected_all}

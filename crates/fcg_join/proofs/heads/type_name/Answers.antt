@@ -1,4 +1,4 @@
-use Rattle.std.proofs.Common.{◌≡◌, ℕ, List, sym, ap, subst, ◌∙◌, inl, refl}
+use Rattle.std.proofs.Common.{◌≡◌, ℕ, List, ap, subst, inl, refl}
 use Rattle.std.specs.Prelude.{slice_get, Some}
 use Rattle.fcg_views.specs.declared.view.View.{View}
 use Rattle.fcg_grammar.specs.Table.{place}

@@ -1,4 +1,4 @@
-use Rattle.std.proofs.Common.{◌≡◌, ℕ, ◌<◌, List, length, sym, ap, subst, ◌∙◌, arith}
+use Rattle.std.proofs.Common.{◌≡◌, List, length, sym, ap, subst, ◌∙◌, arith}
 use Rattle.std.specs.Prelude.{map, not, Bool}
 use Rattle.std.proofs.lemmas.List.{length-map}
 use Rattle.std.proofs.lemmas.Result.{IfOk-weaker}
@@ -57,6 +57,6 @@ returns c =
     let marks : c.as_slice-2.result.now ≡ map not c.in_ok-order.order.circular.items = c.as_slice-2.ensures.value ∙ c.in_ok-sound.ensures ∙ ap (map not) c.as_slice.ensures.value in
     let kept : known (placed parts) ≡ marked c.as_slice-2.result.now types = known_marks (placed parts) c.in_ok-linked.linked.links c.in_ok-order.order.circular.items links c.in_ok-order.ensures.circles ∙ sym (ap (λ (ms : List Bool). marked ms types) marks) in
     let all : AreHeads parts (marked c.as_slice-2.result.now heads) (known (placed parts)) =
-        subst (λ (ts : List Placed). AreHeads parts (marked c.as_slice-2.result.now heads) ts) (sym kept) (zip_marked (IsHead parts (set_names parts)) c.as_slice-2.result.now heads types are) in
+    subst (λ (ts : List Placed). AreHeads parts (marked c.as_slice-2.result.now heads) ts) (sym kept) (zip_marked (IsHead parts (set_names parts)) c.as_slice-2.result.now heads types are) in
     IfOk-weaker c.keep_marked.result (λ k. k.items ≡ marked c.as_slice-2.result.now heads) (λ k. AreHeads parts k.items (known (placed parts)))
     (λ k e. subst (λ (hs : List TypeHead). AreHeads parts hs (known (placed parts))) (sym e) all) c.keep_marked.ensures

@@ -1,9 +1,8 @@
-use Rattle.std.proofs.Common.{◌≡◌, ℕ, ◌<◌, List, [], length, get_or, sym, ap, subst, ◌∙◌, arith}
-use Rattle.std.specs.Prelude.{All, map, Bool}
+use Rattle.std.proofs.Common.{◌≡◌, ℕ, ◌<◌, List, [], length, sym, ap, subst, ◌∙◌, arith}
+use Rattle.std.specs.Prelude.{All, map}
 use Rattle.std.proofs.lemmas.List.{length-map}
 use Rattle.std.proofs.lemmas.Result.{IfOk-weaker}
 use Rattle.fcg_analysis.specs.Types.{winners}
-use Rattle.fcg_join.specs.declared.heads.TypeHead.{TypeHead}
 use Rattle.fcg_join.specs.Parts.{placed}
 use Rattle.fcg_join.specs.PartNames.{set_names, name_there}
 use Rattle.fcg_join.specs.TypeNumbers.{AreHeads}
@@ -17,11 +16,11 @@ mark_firsts-requires c =
     let heads = c.in_ok-heads.heads.items in
     let names : c.deref-2.result.now ≡ map (λ h. h.name) heads = c.deref-2.ensures.value ∙ c.in_ok-numbers.ensures ∙ ap (map (λ h. h.name)) c.deref.ensures.value in
     let many : length (set_names parts) ≡ c.len.result = (
-        let e = ap (λ ns. length ns) c.requires.names.names_are in
-        let m = length-map c.args.names.now.places.items (name_there parts) in
-        let k = c.args.names.now.places.ok in
-        let n = c.len.ensures in
-        omega arith) in
+    let e = ap (λ ns. length ns) c.requires.names.names_are in
+    let m = length-map c.args.names.now.places.items (name_there parts) in
+    let k = c.args.names.now.places.ok in
+    let n = c.len.ensures in
+    omega arith) in
     subst (λ (count : ℕ). All (λ n. n < count) c.deref-2.result.now) many
     (subst (λ (ns : List ℕ). All (λ n. n < length (set_names parts)) ns) (sym names)
     (all_of_map (λ h. h.name) (length (set_names parts)) heads (names_below parts heads (placed parts) (all_heads parts heads c.in_ok-heads.ensures))))

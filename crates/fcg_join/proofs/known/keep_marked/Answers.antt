@@ -1,5 +1,4 @@
-use Rattle.std.proofs.Common.{◌≡◌, [], ◌∷◌, ◌++◌, get_or, sym, ap, ◌∙◌, cond, refl}
-use Rattle.std.specs.Prelude.{false}
+use Rattle.std.proofs.Common.{[], ◌∷◌, ◌++◌, get_or, sym, ap, ◌∙◌, cond}
 use Rattle.std.proofs.lemmas.List.{append-nil}
 use Rattle.fcg_join.specs.Winners.{marked}
 use Rattle.fcg_join.specs.TypeHeads.{no_head}

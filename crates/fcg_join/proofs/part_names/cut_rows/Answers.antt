@@ -1,8 +1,8 @@
-use Rattle.std.proofs.Common.{◌≡◌, take, ◌∙◌}
+use Rattle.std.proofs.Common.{◌∙◌}
 use Rattle.std.specs.Prelude.{map}
 use Rattle.fcg_grammar.specs.Table.{place}
 use Rattle.fcg_join.specs.PartNames.{part_names, set_names}
-use Rattle.fcg_join.proofs.CollectedLaws.{mapped_next, mapped_all}
+use Rattle.fcg_join.proofs.CollectedLaws.{mapped_next}
 use Rattle.fcg_join.proofs.PartNameLaws.{cut_long, cut_front, cut_back}
 use Rattle.fcg_join.proofs.part_names.cut_rows.Goals as goal
 

@@ -41,7 +41,7 @@ returns c =
     let read : texts ≡ map (name_there c.args.parts.now) c.deref.result.now = ap texts_of c.deref-2.ensures.value ∙ c.in_ok-texts.ensures in
     let same = c.deref-4.ensures.value ∙ sym c.deref.ensures.value in
     let kept : c.in_ok-pick_places.field-0.items ≡ map (λ k. get_or c.deref.result.now k no_place) c.in_ok-found.found.places.items =
-        c.in_ok-pick_places.ensures ∙ ap (λ (ps : List NamePlace). map (λ k. get_or ps k no_place) c.deref-5.result.now) same ∙ ap (map (λ k. get_or c.deref.result.now k no_place)) c.deref-5.ensures.value in
+    c.in_ok-pick_places.ensures ∙ ap (λ (ps : List NamePlace). map (λ k. get_or ps k no_place) c.deref-5.result.now) same ∙ ap (map (λ k. get_or c.deref.result.now k no_place)) c.deref-5.ensures.value in
     record {
       numbers = c.in_ok-cut_rows.ensures;
       there = picked_there c.args.parts.now c.deref.result.now c.in_ok-pick_places.field-0.items texts c.in_ok-found.found.numbers.items c.in_ok-found.found.places.items (c.deref.ensures.value ∙ c.in_ok-places.ensures) read c.in_ok-found.ensures kept;

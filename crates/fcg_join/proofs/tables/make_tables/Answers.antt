@@ -1,16 +1,19 @@
 use Rattle.std.proofs.Common.{◌≡◌, ℕ, ◌<◌, List, length, get_or, sym, ap, subst, ◌∙◌, arith}
-use Rattle.std.specs.Prelude.{Option, IfSome, Bool, true, false, All, None}
+use Rattle.std.specs.Prelude.{IfSome}
 use Rattle.fcg_analysis.proofs.WinnerLaws.{known_distinct}
 use Rattle.fcg_join.specs.declared.heads.TypeHead.{TypeHead}
 use Rattle.fcg_join.specs.Parts.{placed, types_of}
 use Rattle.fcg_join.specs.PartNames.{set_names}
 use Rattle.fcg_join.specs.TypeHeads.{IsHead}
-use Rattle.fcg_join.specs.TypeNumbers.{AreHeads, FindsHeads, head_at}
-use Rattle.fcg_join.specs.Internal.Tables.{superclasses_of, is_object_class}
+use Rattle.fcg_join.specs.TypeNumbers.{AreHeads, FindsHeads}
+use Rattle.fcg_join.specs.Internal.Tables.{superclasses_of}
 use Rattle.fcg_join.proofs.ZipLaws.{zip_long}
 use Rattle.fcg_join.proofs.HeadLaws.{all_used_below}
-use Rattle.fcg_join.proofs.JoinLaws.{are_few, few_known}
+use Rattle.fcg_join.proofs.JoinLaws.{are_few, few_known, few_set_names}
 use Rattle.fcg_join.proofs.JoinedLaws.{gives_object}
+use Rattle.fcg_analysis.proofs.NodePlaces.{count_is}
+use Rattle.fcg_join.specs.Internal.Nodes.{HaveMethods}
+use Rattle.fcg_join.proofs.NodeTableLaws.{few_methods, have_methods}
 use Rattle.fcg_join.proofs.tables.make_tables.Goals as goal
 
 pub number_part_names-requires : goal.number_part_names-requires
@@ -56,11 +59,52 @@ returns c =
     let d = known_distinct (placed parts) in
     let are : AreHeads parts c.as_slice.result.now (types_of parts) = subst (λ (hs : List TypeHead). AreHeads parts hs (types_of parts)) (sym c.as_slice.ensures.value) c.in_ok-heads.ensures in
     let are4 : AreHeads parts c.as_slice-4.result.now (types_of parts) = subst (λ (hs : List TypeHead). AreHeads parts hs (types_of parts)) (sym c.as_slice-4.ensures.value) c.in_ok-heads.ensures in
+    let f = are_few parts in
+    let k = few_known (placed parts) in
     record {
+      few = omega (arith, f.views_few, c.requires);
+      few_names = (let n = few_set_names parts in omega (arith, f.names_few, c.requires));
       names = c.in_ok-names.ensures;
       heads = c.in_ok-heads.ensures;
       by_name = subst (λ (hs : List TypeHead). FindsHeads hs by_name (length (set_names parts))) c.as_slice.ensures.value c.in_ok-linked.ensures.by_name;
       links = c.in_ok-linked.ensures.links (types_of parts) are d;
       superclasses = c.in_ok-superclasses.ensures ∙ ap (λ (hs : List TypeHead). superclasses_of hs c.as_slice-3.result.now) c.as_slice-2.ensures.value ∙ ap (superclasses_of heads) c.as_slice-3.ensures.value;
       object' = gives_object parts c.as_slice-4.result.now (types_of parts) are4 d c.find_object-object.result c.find_object-object.ensures.found c.find_object-object.ensures.none;
+      few_nodes = (let m = few_methods parts in let n = count_is (types_of parts) in omega (arith, c.requires));
+      inherited' = c.in_ok-inherited.ensures;
+      nodes' = c.in_ok-nodes.ensures (types_of parts) (subst (λ (hs : List TypeHead). HaveMethods hs (types_of parts)) (sym c.as_slice-5.ensures.value) (have_methods parts heads (types_of parts) c.in_ok-heads.ensures));
     }
+
+pub number_nodes-requires-clause-few : goal.number_nodes-requires-clause-few
+number_nodes-requires-clause-few c =
+    let f = are_few c.args.parts.now in
+    let k = few_known (placed c.args.parts.now) in
+    let z = zip_long (IsHead c.args.parts.now (set_names c.args.parts.now)) c.in_ok-heads.heads.items (types_of c.args.parts.now) c.in_ok-heads.ensures in
+    let e = ap (λ hs. length hs) c.as_slice-5.ensures.value in
+    omega (arith, f.views_few, c.requires)
+
+pub number_nodes-requires-clause-methods : goal.number_nodes-requires-clause-methods
+number_nodes-requires-clause-methods c =
+    let parts = c.args.parts.now in
+    let m = few_methods parts in
+    (types_of parts, subst (λ (hs : List TypeHead). HaveMethods hs (types_of parts)) (sym c.as_slice-5.ensures.value) (have_methods parts c.in_ok-heads.heads.items (types_of parts) c.in_ok-heads.ensures), omega (arith, c.requires))
+
+pub find_inherited-requires-clause-few : goal.find_inherited-requires-clause-few
+find_inherited-requires-clause-few c =
+    let f = are_few c.args.parts.now in
+    let k = few_known (placed c.args.parts.now) in
+    omega (arith, f.views_few, c.requires)
+
+pub find_inherited-requires-clause-heads : goal.find_inherited-requires-clause-heads
+find_inherited-requires-clause-heads c =
+    subst (λ (hs : List TypeHead). AreHeads c.args.parts.now hs (types_of c.args.parts.now)) (sym c.as_slice-6.ensures.value) c.in_ok-heads.ensures
+
+pub find_inherited-requires-clause-found : goal.find_inherited-requires-clause-found
+find_inherited-requires-clause-found c =
+    subst (λ (hs : List TypeHead). FindsHeads hs c.in_ok-linked.linked.by_name.items (length (set_names c.args.parts.now))) (c.as_slice.ensures.value ∙ sym c.as_slice-6.ensures.value) c.in_ok-linked.ensures.by_name
+
+pub find_inherited-requires-clause-links : goal.find_inherited-requires-clause-links
+find_inherited-requires-clause-links c =
+    let parts = c.args.parts.now in
+    let are : AreHeads parts c.as_slice.result.now (types_of parts) = subst (λ (hs : List TypeHead). AreHeads parts hs (types_of parts)) (sym c.as_slice.ensures.value) c.in_ok-heads.ensures in
+    c.in_ok-linked.ensures.links (types_of parts) are (known_distinct (placed parts))

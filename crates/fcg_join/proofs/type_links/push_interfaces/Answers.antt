@@ -1,5 +1,5 @@
-use Rattle.std.proofs.Common.{◌≡◌, ℕ, ◌<◌, ◌++◌, List, length, get_or, sym, ap, subst, ◌∙◌, inr, arith}
-use Rattle.std.specs.Prelude.{option_to_list, map}
+use Rattle.std.proofs.Common.{◌≡◌, ℕ, ◌<◌, ◌++◌, List, get_or, ap, subst, ◌∙◌, inr, arith}
+use Rattle.std.specs.Prelude.{option_to_list}
 use Rattle.fcg_grammar.specs.Table.{place}
 use Rattle.fcg_grammar.proofs.Among.{among_left, among_right}
 use Rattle.fcg_partial.specs.Views.{names_of_super}
@@ -22,7 +22,7 @@ loop-j-preserved c = λ names v e h. (
     let own = part_names p in
     let a = named p c.args.k v h x.0 (inr (among_right x.0 (names_of_super v.superclass) _ (among_left x.0 v.interfaces _ (among_item v.interfaces c.loop-j.j x.0 x.1)))) in
     let number : get_or c.args.numbers.now c.load_interface.result 0 ≡ place names x.0 =
-        ap (get_or_at c.args.numbers.now) (c.load_interface.ensures.value v x.0 h x.1) ∙ ap (λ ns. get_or ns (place own x.0) 0) e ∙ numbered names own x.0 0 a in
+    ap (get_or_at c.args.numbers.now) (c.load_interface.ensures.value v x.0 h x.1) ∙ ap (λ ns. get_or ns (place own x.0) 0) e ∙ numbered names own x.0 0 a in
     let found = c.find_interface.ensures ∙ ap (interface_numbered c.args.heads.now c.args.by_name.now) number in
     flat_next (λ n. option_to_list (interface_numbered c.args.heads.now c.args.by_name.now (place names n))) v.interfaces c.loop-j.j x.0 c.loop-j.row.items c.push_found.new.row.items
     (c.args.row.now.items ++ interfaces_numbered names c.args.heads.now c.args.by_name.now v.interfaces) lt x.2

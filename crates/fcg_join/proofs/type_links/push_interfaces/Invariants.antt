@@ -10,4 +10,4 @@ use Rattle.fcg_join.proofs.type_links.push_interfaces.Given as goal
 abbrev pub invariant-loop-j : goal.invariant-loop-j
 invariant-loop-j l = (names : List (List ℕ)) (v : View) → l.numbers ≡ map (place names) (part_names l.part) → HasView l.part l.k v
     → l.row.items ++ interfaces_numbered names l.heads l.by_name (drop l.j v.interfaces)
-        ≡ l.fn.row.items ++ interfaces_numbered names l.heads l.by_name v.interfaces
+    ≡ l.fn.row.items ++ interfaces_numbered names l.heads l.by_name v.interfaces

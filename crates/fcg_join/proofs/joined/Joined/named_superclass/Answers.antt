@@ -1,0 +1,18 @@
+use Rattle.std.proofs.Common.{List, sym, subst, ◌∙◌}
+use Rattle.fcg_partial.specs.Parts.{PartShown}
+use Rattle.fcg_join.specs.Parts.{types_of}
+use Rattle.fcg_join.specs.PartNames.{set_names}
+use Rattle.fcg_join.specs.TypeHeads.{IsHead}
+use Rattle.fcg_join.proofs.GraphRows.{item}
+use Rattle.fcg_join.proofs.joined.Joined.named_superclass.Goals as goal
+
+pub superclass_name_of_head-requires : goal.superclass_name_of_head-requires
+superclass_name_of_head-requires c =
+    let x = item (types_of c.args.self.now) c.args.t.0 c.requires in
+    let e = c.as_slice.ensures ∙ c.self.view_is in
+    (x.0, subst (λ (ps : List PartShown). IsHead ps (set_names ps) c.head.result x.0) (sym e) (c.head.ensures x.0 x.1))
+
+pub returns : goal.returns
+returns c = λ x h. (
+    let e = c.as_slice.ensures ∙ c.self.view_is in
+    c.superclass_name_of_head.ensures x (subst (λ (ps : List PartShown). IsHead ps (set_names ps) c.head.result x) (sym e) (c.head.ensures x h)))

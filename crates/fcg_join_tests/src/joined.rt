@@ -1,0 +1,206 @@
+use fcg_cases::views_of;
+use fcg_join::{Joined, MethodId, TypeId};
+use fcg_partial::{Part, PartialGraph, Parts};
+use fcg_views::{Coordinate, View, Views, is_valid};
+use std::alloc::Global;
+use std::sync::Arc;
+use std::test::Fail;
+
+// The graph of views.
+fn graph_of(alloc: Global, views: Vec<View>) -> Result<PartialGraph, Fail> {
+    let views = Views::from(views);
+    if !views.fits() || !views.as_slice().iter().all(|view| is_valid(view)) {
+        return Err("the views are valid".into());
+    }
+    Ok(
+        PartialGraph::from_views(alloc, views)
+            .ok()
+            .ok_or("no memory")?,
+    )
+}
+
+// A release with the types of a text in short form.
+fn part_of(alloc: Global, coordinate: &str, types: &str) -> Result<Part, Fail> {
+    let views = views_of(alloc, types).ok().ok_or("it is in short form")?;
+    let graph = graph_of(alloc, views)?;
+    let coordinate = Coordinate::parse(alloc, coordinate.as_bytes())
+        .ok()
+        .ok_or("it is a coordinate")?;
+    Ok(Part {
+        coordinate,
+        graph: Arc::new(alloc, graph)?,
+    })
+}
+
+// Releases, each a coordinate and its types, joined.
+fn join(alloc: Global, releases: &[(&str, &str)]) -> Result<Joined, Fail> {
+    let mut parts = Vec::new(alloc);
+    for (coordinate, types) in releases {
+        parts.push(part_of(alloc, coordinate, types)?)?;
+    }
+    let parts = Parts::from(parts);
+    if !Joined::fits(&parts) {
+        return Err("the set is small".into());
+    }
+    Ok(Joined::new(alloc, &parts).ok().ok_or("no memory")?)
+}
+
+// The number of the type of a name.
+fn number_of(joined: &Joined, name: &str) -> Option<u32> {
+    joined.find(name.as_bytes()).map(|t| t.0)
+}
+
+// The flags of the type of a name.
+fn flags_of(joined: &Joined, name: &str) -> Option<u16> {
+    match joined.find(name.as_bytes()) {
+        Some(t) => Some(joined.type_flags(t)),
+        None => None,
+    }
+}
+
+// The number of the superclass of the type of a name.
+fn superclass_of(joined: &Joined, name: &str) -> Option<u32> {
+    let t = joined.find(name.as_bytes())?;
+    joined.superclass(t).map(|s| s.0)
+}
+
+// The number of the next in the chain of the type of a name.
+fn next_of(joined: &Joined, name: &str) -> Option<u32> {
+    let t = joined.find(name.as_bytes())?;
+    joined.chain_next(t).map(|s| s.0)
+}
+
+// Releases, how many known types they have and how many methods these, and of names the number of the type, of its
+// superclass and of the next in its chain.
+type Row = (&'static str, Option<u32>, Option<u32>, Option<u32>);
+type Set = (&'static [(&'static str, &'static str)], u32, u32, &'static [Row]);
+
+const SETS: &[Set] = &[
+    // p/A and p/B extend each other, and p/C and p/T are known
+    (
+        &[
+            ("g:a:1", "class p/A extends p/B pub m()V"),
+            ("g:b:1", "class p/B extends p/A"),
+            (
+                "g:c:1",
+                "class p/C extends p/A pub m()V class p/T static t()V [ virtual p/A.m()V ]",
+            ),
+        ],
+        2,
+        2,
+        &[
+            ("p/A", None, None, None),
+            ("p/B", None, None, None),
+            ("p/C", Some(0), None, None),
+            ("p/T", Some(1), None, None),
+            ("m", None, None, None),
+        ],
+    ),
+    // the first p/X decides
+    (
+        &[
+            ("g:b:1", "class p/X static f()V static g()V class p/Y extends p/X"),
+            ("g:a:1", "interface p/X pub f()V"),
+        ],
+        2,
+        2,
+        &[
+            ("p/X", Some(0), None, None),
+            ("p/Y", Some(1), Some(0), Some(0)),
+        ],
+    ),
+    // and turned round: an interface is no superclass
+    (
+        &[
+            ("g:a:1", "interface p/X pub f()V"),
+            ("g:b:1", "class p/X static f()V static g()V class p/Y extends p/X"),
+        ],
+        2,
+        1,
+        &[
+            ("p/X", Some(0), None, None),
+            ("p/Y", Some(1), None, None),
+        ],
+    ),
+    // Object stands at the end of the chains of classes, and uses no names itself
+    (
+        &[
+            (
+                "j:b:1",
+                "class java/lang/Object extends p/A pub hashCode()I class p/A interface p/I",
+            ),
+            ("a:a:1", "class p/B extends p/A class p/C extends p/absent"),
+        ],
+        5,
+        1,
+        &[
+            ("java/lang/Object", Some(0), None, None),
+            ("p/A", Some(1), Some(0), Some(0)),
+            ("p/I", Some(2), None, None),
+            ("p/B", Some(3), Some(1), Some(1)),
+            ("p/C", Some(4), None, Some(0)),
+        ],
+    ),
+    // what stands between two circles isn't circular, nor is what leads to one
+    (
+        &[(
+            "g:a:1",
+            "class p/A extends p/B class p/B extends p/A implements p/K class p/M extends p/A implements p/I \
+             interface p/I implements p/J interface p/J implements p/I class p/N extends p/M interface p/K",
+        )],
+        3,
+        0,
+        &[
+            ("p/M", Some(0), None, None),
+            ("p/N", Some(1), Some(0), Some(0)),
+            ("p/K", Some(2), None, None),
+            ("p/I", None, None, None),
+        ],
+    ),
+];
+
+// Whether the type of a name has these numbers.
+fn is_row(joined: &Joined, row: &Row) -> bool {
+    number_of(joined, row.0) == row.1
+        && superclass_of(joined, row.0) == row.2
+        && next_of(joined, row.0) == row.3
+}
+
+#[test]
+fn joins_sets(rt: HostRuntime) -> Result<(), Fail> {
+    for (releases, types, methods, rows) in SETS {
+        let joined = join(rt.alloc(), releases)?;
+        let counts = joined.type_count() == *types && joined.method_count() == *methods;
+        assert!(rt; counts && rows.iter().all(|row| is_row(&joined, row)), "{releases:?}");
+    }
+    Ok(())
+}
+
+// Whether the type of a number has this name, and this name of a superclass.
+fn is_named(joined: &Joined, number: u32, name: &str, superclass: Option<&[u8]>) -> bool {
+    number < joined.type_count()
+        && joined.type_name(TypeId(number)) == name.as_bytes()
+        && joined.named_superclass(TypeId(number)) == superclass
+}
+
+// Whether the method of a number is of the type of a number.
+fn is_owned(joined: &Joined, number: u32, owner: u32) -> bool {
+    number < joined.method_count() && joined.owner(MethodId(number)) == TypeId(owner)
+}
+
+#[test]
+fn tells_types(rt: HostRuntime) -> Result<(), Fail> {
+    let joined = join(
+        rt.alloc(),
+        &[
+            ("g:b:1", "class p/Y extends p/X pub f()V interface p/Z abs g()V"),
+            ("g:a:1", "class p/Y class p/X pub f()V pub g()V"),
+        ],
+    )?;
+    let names = is_named(&joined, 0, "p/Y", Some(b"p/X"))
+        && is_named(&joined, 2, "p/X", Some(b"java/lang/Object"));
+    let flags = flags_of(&joined, "p/Y") == Some(0x0021) && flags_of(&joined, "p/Z") == Some(0x0601);
+    let owners = is_owned(&joined, 0, 0) && is_owned(&joined, 1, 1) && is_owned(&joined, 3, 2);
+    assert!(rt; names && flags && owners && joined.parts().as_slice().len() == 2);
+    Ok(())
+}

@@ -78,13 +78,14 @@ module _ (types : List Placed) (d : IsDistinct is_type types) (superclasses : Li
   line_by_numbers zero x t h = refl
   line_by_numbers (suc n) x t h =
       ap (λ b. b || is_in_line superclasses y n (get_or superclasses x None)) (sym (same_number types d y x u t there h))
-      ∙ ap (λ b. is_type u t || b) (at (get_or superclasses x None) (superclass types t) (are x t h))
+      ∙ ap (λ b. is_type u t || b) (at (line_by_numbers n) (get_or superclasses x None) (superclass types t) (are x t h))
     where
-      at : (o : Option ℕ) (r : Option Placed) → IsTypeNumber types o r → is_in_line superclasses y n o ≡ list_any (is_type u) (superclass_line n types r)
-      at None None k = refl
-      at None (Some v) k = absurd k
-      at (Some z) None k = absurd k
-      at (Some z) (Some v) k = line_by_numbers n z v k
+      at : ((z : ℕ) (v : Placed) → HasTypeAt types z v → is_in_line superclasses y n (Some z) ≡ list_any (is_type u) (superclass_line n types (Some v)))
+          → (o : Option ℕ) (r : Option Placed) → IsTypeNumber types o r → is_in_line superclasses y n o ≡ list_any (is_type u) (superclass_line n types r)
+      at next None None k = refl
+      at next None (Some v) k = absurd k
+      at next (Some z) None k = absurd k
+      at next (Some z) (Some v) k = next z v k
 
   module _ (acyclic : IsAcyclic types) (class' : is_class u ≡ true) (other : same u.view.name object_name ≡ false) where
     -- Object isn't the class

@@ -30,5 +30,6 @@ pub mod OwnMentions
 pub mod BelowLaws
 pub mod BelowNumbers
 pub mod TableAnswers
+pub mod BelowAnswers
 pub mod SearchNames
 pub mod NodeTableLaws

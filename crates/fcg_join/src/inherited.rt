@@ -1,5 +1,5 @@
 //! What types have from the types above them.
-ghost use Rattle.std.specs.Prelude.{◌<◌, ◌^◌, length, IfOk};
+ghost use Rattle.std.specs.Prelude.{◌≡◌, ◌<◌, ◌^◌, length, IfOk};
 ghost use Rattle.fcg_join.specs.Parts.{types_of};
 ghost use Rattle.fcg_join.specs.PartNames.{set_names, names_by_number};
 ghost use Rattle.fcg_join.specs.TypeLinks.{HasLinks};

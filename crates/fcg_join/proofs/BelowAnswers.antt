@@ -1,10 +1,11 @@
 -- What the tables of a Joined answer on gaps, and on what is at or below a name.
-use Rattle.std.proofs.Common.{◌≡◌, ℕ, ◌<◌, ◌≤◌, List, [], length, get_or, refl, sym, ap, subst, ◌∙◌, inl, inr, arith}
-use Rattle.std.specs.Prelude.{Bool, true, false, ◌||◌, ◌==◌, Option, Some, None, is_none, is_some, not, slice_get, Contains, map}
+use Rattle.std.proofs.Common.{◌≡◌, ℕ, zero, suc, ◌+◌, ◌<◌, ◌≤◌, List, [], ◌∷◌, ◌++◌, length, take, cond, get_or, refl, sym, ap, subst, ◌∙◌, inl, inr, arith}
+use Rattle.std.specs.Prelude.{Bool, true, false, ◌||◌, ◌==◌, Option, Some, None, is_none, is_some, not, All, IfSome, filter, slice_get, Contains, map}
 use Rattle.std.specs.List.{list_any}
 use Rattle.std.proofs.lemmas.Bool.{cases_lt}
-use Rattle.std.proofs.lemmas.List.{get_or-map, get_or_past}
-use Rattle.std.proofs.lemmas.Option.{slice_get_within}
+use Rattle.std.proofs.lemmas.List.{length-map, get_or-map, get_or_past, map-append, take_more, append-nil}
+use Rattle.std.proofs.lemmas.Option.{slice_get_within, get_or_from_slice_get}
+use Rattle.std.proofs.lemmas.List.Elements.{filter-append, All-append}
 use Rattle.std.specs.Cmp.Lexicographic.{bytes_decides}
 use Rattle.fcg_partial.specs.Parts.{PartShown}
 use Rattle.fcg_analysis.specs.NamesAndFlags.{same}
@@ -13,6 +14,7 @@ use Rattle.fcg_analysis.specs.Types.{object, superclass, has_gap, is_below}
 use Rattle.fcg_analysis.proofs.NameLaws.{below_object}
 use Rattle.fcg_analysis.proofs.WinnerLaws.{known_distinct}
 use Rattle.fcg_analysis.proofs.General.Places.{some_at}
+use Rattle.fcg_join.specs.declared.id.TypeId.{TypeId}
 use Rattle.fcg_join.specs.declared.tables.TypeTables.{TypeTables}
 use Rattle.fcg_join.specs.declared.part_names.NamePlace.{NamePlace}
 use Rattle.fcg_join.specs.Names.{text_at}
@@ -23,7 +25,7 @@ use Rattle.fcg_join.specs.TypeNumbers.{class_numbered}
 use Rattle.fcg_join.specs.Joined.{IsTypeNumber}
 use Rattle.fcg_join.specs.Internal.Tables.{IsJoined}
 use Rattle.fcg_join.specs.Internal.Mentions.{row_of}
-use Rattle.fcg_join.specs.Internal.Below.{is_in_line, AreSuperclasses}
+use Rattle.fcg_join.specs.Internal.Below.{is_in_line, AreSuperclasses, IsNameNumber, HaveNumbers}
 use Rattle.fcg_join.proofs.Places.{has_in}
 use Rattle.fcg_join.proofs.JoinLaws.{many_names}
 use Rattle.fcg_join.proofs.TableAnswers.{superclasses_many, superclass_there}
@@ -39,6 +41,52 @@ none_is None true e = refl
 none_is None false e = absurd cc
 none_is (Some y) true e = absurd cc
 none_is (Some y) false e = refl
+
+-- ---- numbers of names
+
+pub is_name_number : (names : List (List ℕ)) (n : List ℕ) (found : List (List ℕ)) → found ≡ names → (o : Option ℕ) → IfSome o (λ k. slice_get found k ≡ Some n) → (o ≡ None → Contains found n → ⊥) → IsNameNumber names n o
+is_name_number names n found e None h g = subst (λ (ns : List (List ℕ)). Contains ns n → ⊥) e (g refl)
+is_name_number names n found e (Some k) h g = subst (λ (ns : List (List ℕ)). slice_get ns k ≡ Some n) e h
+
+pub number_below : (names : List (List ℕ)) (n : List ℕ) (o : Option ℕ) → IsNameNumber names n o → IfSome o (λ k. k < length names)
+number_below names n None h = tt
+number_below names n (Some k) h = slice_get_within names k n h
+
+-- ---- lists of numbers
+
+-- one type more
+pub listed_next : (types : List Placed) (p : Placed → Bool) (x : ℕ) (t : Placed) → HasTypeAt types x t → (b : Bool) → b ≡ p t → (old new : List ℕ) → new ≡ old ++ cond b (x ∷ []) []
+    → HaveNumbers types old (filter p (take x types)) → HaveNumbers types new (filter p (take (x + 1) types))
+listed_next types p x t h b q old new e s =
+    ap (map (slice_get types)) e ∙ map-append (slice_get types) old (cond b (x ∷ []) [])
+    ∙ ap (λ os. os ++ map (slice_get types) (cond b (x ∷ []) [])) s
+    ∙ ap (λ os. map Some (filter p (take x types)) ++ os) (at b ∙ ap (λ c. map Some (cond c (t ∷ []) [])) q)
+    ∙ sym (ap (λ ts. map Some (filter p ts)) more ∙ ap (map Some) (filter-append p (take x types) (t ∷ [])) ∙ map-append Some (filter p (take x types)) (filter p (t ∷ [])))
+  where
+    more : take (x + 1) types ≡ take x types ++ t ∷ []
+    more = take_more types x t (slice_get_within types x t h) ∙ ap (λ u. take x types ++ u ∷ []) (get_or_from_slice_get types x t t h)
+
+    at : (c : Bool) → map (slice_get types) (cond c (x ∷ []) []) ≡ map Some (cond c (t ∷ []) [])
+    at true = ap (λ o. o ∷ []) h
+    at false = refl
+
+pub ids_within : (count : ℕ) (ids : List TypeId) (numbers : List ℕ) → map (λ id. id.0) ids ≡ numbers → All (λ n. n < count) numbers → All (λ (id : TypeId). id.0 < count) ids
+ids_within count ids numbers e h k d l =
+    let m : length numbers ≡ length ids = sym (ap (λ ns. length ns) e) ∙ length-map ids (λ id. id.0) in
+    let q : get_or numbers k 0 ≡ (get_or ids k d).0 = sym (ap (λ ns. get_or ns k 0) e) ∙ get_or-map (λ id. id.0) ids k d 0 l in
+    let a = h k 0 (omega arith) in
+    omega arith
+
+pub within_next : (count x : ℕ) → x < count → (b : Bool) (old new : List ℕ) → new ≡ old ++ cond b (x ∷ []) [] → All (λ n. n < count) old → All (λ n. n < count) new
+within_next count x l b old new e h = subst (λ (ns : List ℕ). All (λ n. n < count) ns) (sym e) (at b)
+  where
+    at : (c : Bool) → All (λ n. n < count) (old ++ cond c (x ∷ []) [])
+    at true = All-append (λ n. n < count) old (x ∷ []) h (λ k d m. one k d m)
+      where
+        one : (k d : ℕ) → k < length (x ∷ []) → get_or (x ∷ []) k d < count
+        one zero d m = l
+        one (suc k) d m = absurd (omega arith)
+    at false = subst (λ (ns : List ℕ). All (λ n. n < count) ns) (sym (append-nil old)) h
 
 module _ (parts : List PartShown) (t : TypeTables) (j : IsJoined parts t) where
   abbrev N : List (List ℕ)

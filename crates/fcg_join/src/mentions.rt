@@ -19,7 +19,7 @@ use fcg_partial::Part;
 use std::alloc::{AllocError, Global};
 
 // Adds a number that passes.
-fn push_if(row: &mut Vec<u32>, number: u32, passes: bool) -> Result<(), AllocError>
+pub(crate) fn push_if(row: &mut Vec<u32>, number: u32, passes: bool) -> Result<(), AllocError>
     ensures { OnOk result (row.new.items ≡ row.old.items ++ (if passes then number ∷ [] else [])) }
 {
     if passes {

@@ -1,5 +1,5 @@
 -- What is at or below a name, by the numbers of types.
-use Rattle.std.specs.Prelude.{ℕ, zero, suc, List, Bool, false, ◌||◌, ◌==◌, Option, Some, None, slice_index_or}
+use Rattle.std.specs.Prelude.{◌≡◌, ℕ, zero, suc, List, Bool, false, ◌||◌, ◌==◌, Option, Some, None, Contains, map, slice_get, slice_index_or}
 use Rattle.fcg_analysis.specs.Declarations.{Placed}
 use Rattle.fcg_analysis.specs.Types.{superclass}
 use Rattle.fcg_join.specs.TypeLinks.{HasTypeAt}
@@ -14,3 +14,12 @@ is_in_line superclasses y (suc n) (Some x) = y == x || is_in_line superclasses y
 -- of each type the class to which it links
 abbrev pub AreSuperclasses : List Placed → List (Option ℕ) → Type 0
 AreSuperclasses types superclasses = (x : ℕ) (t : Placed) → HasTypeAt types x t → IsTypeNumber types (slice_index_or superclasses x None) (superclass types t)
+
+-- the number of a name, where it is one of these
+abbrev pub IsNameNumber : List (List ℕ) → List ℕ → Option ℕ → Type 0
+IsNameNumber names name None = Contains names name → ⊥
+IsNameNumber names name (Some k) = slice_get names k ≡ Some name
+
+-- the types of these numbers
+abbrev pub HaveNumbers : List Placed → List ℕ → List Placed → Type 0
+HaveNumbers types numbers found = map (slice_get types) numbers ≡ map Some found

@@ -16,9 +16,9 @@ use Rattle.fcg_analysis.specs.NamesAndFlags.{same, has}
 use Rattle.fcg_analysis.specs.Declarations.{object_name}
 use Rattle.fcg_join.specs.declared.heads.TypeHead.{TypeHead}
 use Rattle.fcg_join.specs.Parts.{placed_view}
-use Rattle.fcg_join.specs.PartNames.{part_names}
-use Rattle.fcg_join.specs.PartRows.{HasView, row_of_view}
-use Rattle.fcg_join.specs.TypeHeads.{head_of}
+use Rattle.fcg_join.specs.Internal.PartNames.{part_names}
+use Rattle.fcg_join.specs.Internal.PartRows.{HasView, row_of_view}
+use Rattle.fcg_join.specs.Internal.TypeHeads.{head_of}
 
 -- an element by its place
 pub item : {X : Type 0} (xs : List X) (k : ℕ) → k < length xs → (x : X) × (slice_get xs k ≡ Some x) × (x ≡ get_or xs k x)

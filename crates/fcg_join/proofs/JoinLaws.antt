@@ -14,7 +14,7 @@ use Rattle.fcg_analysis.specs.Types.{winners, winners_after, known, is_circular}
 use Rattle.fcg_analysis.proofs.General.Members.{length-filter_all}
 use Rattle.fcg_join.specs.declared.part_names.SetNames.{SetNames}
 use Rattle.fcg_join.specs.Parts.{placed_view, placed_of, placed}
-use Rattle.fcg_join.specs.PartNames.{part_names, all_names, set_names, name_there, AreSetNames}
+use Rattle.fcg_join.specs.Internal.PartNames.{part_names, all_names, set_names, name_there, AreSetNames}
 use Rattle.fcg_join.proofs.GraphRows.{types_many}
 
 winners_short : (earlier later : List Placed) → length (winners_after earlier later) ≤ length later

@@ -17,10 +17,10 @@ use Rattle.fcg_analysis.proofs.General.Members.{IsIn, IsIn-from_Contains, Contai
 use Rattle.fcg_analysis.proofs.OverrideLaws.{one_of_name}
 use Rattle.fcg_order.specs.Links.{HasLink}
 use Rattle.fcg_join.specs.declared.heads.TypeHead.{TypeHead}
-use Rattle.fcg_join.specs.PartNames.{set_names}
-use Rattle.fcg_join.specs.TypeHeads.{IsHead, no_head, used_superclass}
+use Rattle.fcg_join.specs.Internal.PartNames.{set_names}
+use Rattle.fcg_join.specs.Internal.TypeHeads.{IsHead, no_head, used_superclass}
 use Rattle.fcg_join.specs.TypeLinks.{HasTypeAt, HasLinks}
-use Rattle.fcg_join.specs.TypeNumbers.{AreHeads, FindsHeads, head_at, type_numbered, class_numbered, interface_numbered, superclass_numbered, interfaces_numbered, links_numbered}
+use Rattle.fcg_join.specs.Internal.TypeNumbers.{AreHeads, FindsHeads, head_at, type_numbered, class_numbered, interface_numbered, superclass_numbered, interfaces_numbered, links_numbered}
 use Rattle.fcg_join.proofs.Firsts.{same_names}
 use Rattle.fcg_join.proofs.Places.{has_in, one_place}
 use Rattle.fcg_join.proofs.ZipLaws.{zip_left, zip_right, zip_long}

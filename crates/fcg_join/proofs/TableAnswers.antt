@@ -15,10 +15,10 @@ use Rattle.fcg_join.specs.declared.id.TypeId.{TypeId}
 use Rattle.fcg_join.specs.declared.tables.TypeTables.{TypeTables}
 use Rattle.fcg_join.specs.Parts.{placed, types_of}
 use Rattle.fcg_join.specs.declared.part_names.NamePlace.{NamePlace}
-use Rattle.fcg_join.specs.PartNames.{set_names, name_there}
-use Rattle.fcg_join.specs.TypeHeads.{IsHead, no_head}
+use Rattle.fcg_join.specs.Internal.PartNames.{set_names, name_there}
+use Rattle.fcg_join.specs.Internal.TypeHeads.{IsHead, no_head}
 use Rattle.fcg_join.specs.TypeLinks.{HasTypeAt}
-use Rattle.fcg_join.specs.TypeNumbers.{head_at, superclass_numbered}
+use Rattle.fcg_join.specs.Internal.TypeNumbers.{head_at, superclass_numbered}
 use Rattle.fcg_join.specs.Joined.{IsTypeNumber}
 use Rattle.fcg_join.specs.Internal.Tables.{IsJoined, next_numbered}
 use Rattle.fcg_join.proofs.Places.{has_in}

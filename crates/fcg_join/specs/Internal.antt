@@ -8,3 +8,7 @@ pub mod Below
 pub mod Inherited
 pub mod Searched
 pub mod Nodes
+pub mod PartNames
+pub mod PartRows
+pub mod TypeHeads
+pub mod TypeNumbers

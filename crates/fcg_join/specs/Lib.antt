@@ -3,10 +3,6 @@ pub mod TypeLinks
 pub mod TypeTables
 pub mod Names
 pub mod Parts
-pub mod PartNames
-pub mod PartRows
-pub mod TypeHeads
-pub mod TypeNumbers
 pub mod NodeTables
 pub mod Places
 pub mod Joined

@@ -5,9 +5,9 @@ ghost use Rattle.fcg_views.specs.declared.view.View.{View};
 ghost use Rattle.fcg_analysis.specs.NamesAndFlags.{same, has};
 ghost use Rattle.fcg_analysis.specs.Declarations.{Placed, object_name};
 ghost use Rattle.fcg_join.specs.Parts.{placed_view};
-ghost use Rattle.fcg_join.specs.PartNames.{part_names, set_names, names_by_number};
-ghost use Rattle.fcg_join.specs.PartRows.{HasView, row_of_view};
-ghost use Rattle.fcg_join.specs.TypeHeads.{head_of, heads_in, heads_of, IsHead};
+ghost use Rattle.fcg_join.specs.Internal.PartNames.{part_names, set_names, names_by_number};
+ghost use Rattle.fcg_join.specs.Internal.PartRows.{HasView, row_of_view};
+ghost use Rattle.fcg_join.specs.Internal.TypeHeads.{head_of, heads_in, heads_of, IsHead};
 
 use fcg_order::Links as Rows;
 use fcg_partial::{Part, PartialGraph, TypeRow};

@@ -8,8 +8,8 @@ ghost use Rattle.fcg_analysis.specs.Types.{superclass, type_named};
 ghost use Rattle.fcg_analysis.specs.Nodes.{Node};
 ghost use Rattle.fcg_analysis.specs.Laws.ChainParts.{next_in_chain};
 ghost use Rattle.fcg_join.specs.Parts.{types_of, nodes_of};
-ghost use Rattle.fcg_join.specs.PartNames.{set_names};
-ghost use Rattle.fcg_join.specs.TypeHeads.{IsHead};
+ghost use Rattle.fcg_join.specs.Internal.PartNames.{set_names};
+ghost use Rattle.fcg_join.specs.Internal.TypeHeads.{IsHead};
 ghost use Rattle.fcg_join.specs.Joined.{HasType, HasNode, GivesType};
 ghost use Rattle.fcg_join.specs.Internal.Tables.{next_numbered};
 

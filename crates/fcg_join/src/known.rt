@@ -4,8 +4,8 @@ ghost use Rattle.std.specs.List.{IsDistinct};
 ghost use Rattle.fcg_analysis.specs.Declarations.{Placed, is_type};
 ghost use Rattle.fcg_analysis.specs.Types.{winners, known};
 ghost use Rattle.fcg_join.specs.Parts.{placed};
-ghost use Rattle.fcg_join.specs.PartNames.{AreSetNames, set_names};
-ghost use Rattle.fcg_join.specs.TypeNumbers.{AreHeads, FindsFirst, FindsHeads};
+ghost use Rattle.fcg_join.specs.Internal.PartNames.{AreSetNames, set_names};
+ghost use Rattle.fcg_join.specs.Internal.TypeNumbers.{AreHeads, FindsFirst, FindsHeads};
 ghost use Rattle.fcg_join.specs.TypeLinks.{HasLinks};
 ghost use Rattle.fcg_join.specs.Winners.{marked};
 

@@ -2,7 +2,7 @@
 ghost use Rattle.std.specs.Prelude.{◌≡◌, ◌<◌, ◌≤◌, ◌^◌, length, All, IfOk, IfSome, List, None, false, true};
 ghost use Rattle.fcg_partial.specs.Parts.{encoded_len};
 ghost use Rattle.fcg_join.specs.Internal.Tables.{is_object_class, IsJoined};
-ghost use Rattle.fcg_join.specs.TypeNumbers.{head_at};
+ghost use Rattle.fcg_join.specs.Internal.TypeNumbers.{head_at};
 
 use crate::heads::{TypeHead, is_interface};
 use crate::inherited::{InheritedTables, find_inherited};

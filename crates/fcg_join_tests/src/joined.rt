@@ -73,7 +73,13 @@ fn next_of(joined: &Joined, name: &str) -> Option<u32> {
 // Releases, how many known types they have and how many methods these, and of names the number of the type, of its
 // superclass and of the next in its chain.
 type Row = (&'static str, Option<u32>, Option<u32>, Option<u32>);
-type Set = (&'static [(&'static str, &'static str)], u32, u32, &'static [Row]);
+
+type Set = (
+    &'static [(&'static str, &'static str)],
+    u32,
+    u32,
+    &'static [Row],
+);
 
 const SETS: &[Set] = &[
     // p/A and p/B extend each other, and p/C and p/T are known
@@ -99,7 +105,10 @@ const SETS: &[Set] = &[
     // the first p/X decides
     (
         &[
-            ("g:b:1", "class p/X static f()V static g()V class p/Y extends p/X"),
+            (
+                "g:b:1",
+                "class p/X static f()V static g()V class p/Y extends p/X",
+            ),
             ("g:a:1", "interface p/X pub f()V"),
         ],
         2,
@@ -113,14 +122,14 @@ const SETS: &[Set] = &[
     (
         &[
             ("g:a:1", "interface p/X pub f()V"),
-            ("g:b:1", "class p/X static f()V static g()V class p/Y extends p/X"),
+            (
+                "g:b:1",
+                "class p/X static f()V static g()V class p/Y extends p/X",
+            ),
         ],
         2,
         1,
-        &[
-            ("p/X", Some(0), None, None),
-            ("p/Y", Some(1), None, None),
-        ],
+        &[("p/X", Some(0), None, None), ("p/Y", Some(1), None, None)],
     ),
     // Object stands at the end of the chains of classes, and uses no names itself
     (
@@ -171,7 +180,10 @@ fn joins_sets(rt: HostRuntime) -> Result<(), Fail> {
     for (releases, types, methods, rows) in SETS {
         let joined = join(rt.alloc(), releases)?;
         let counts = joined.type_count() == *types && joined.method_count() == *methods;
-        assert!(rt; counts && rows.iter().all(|row| is_row(&joined, row)), "{releases:?}");
+        assert!(rt;
+            counts && rows.iter().all(|row| is_row(&joined, row)),
+            "{releases:?}"
+        );
     }
     Ok(())
 }
@@ -193,13 +205,17 @@ fn tells_types(rt: HostRuntime) -> Result<(), Fail> {
     let joined = join(
         rt.alloc(),
         &[
-            ("g:b:1", "class p/Y extends p/X pub f()V interface p/Z abs g()V"),
+            (
+                "g:b:1",
+                "class p/Y extends p/X pub f()V interface p/Z abs g()V",
+            ),
             ("g:a:1", "class p/Y class p/X pub f()V pub g()V"),
         ],
     )?;
     let names = is_named(&joined, 0, "p/Y", Some(b"p/X"))
         && is_named(&joined, 2, "p/X", Some(b"java/lang/Object"));
-    let flags = flags_of(&joined, "p/Y") == Some(0x0021) && flags_of(&joined, "p/Z") == Some(0x0601);
+    let flags = flags_of(&joined, "p/Y") == Some(0x0021)
+        && flags_of(&joined, "p/Z") == Some(0x0601);
     let owners = is_owned(&joined, 0, 0) && is_owned(&joined, 1, 1) && is_owned(&joined, 3, 2);
     assert!(rt; names && flags && owners && joined.parts().as_slice().len() == 2);
     Ok(())

@@ -6,9 +6,9 @@ use Rattle.fcg_analysis.specs.Types.{object}
 use Rattle.fcg_join.specs.declared.heads.TypeHead.{TypeHead}
 use Rattle.fcg_join.specs.declared.tables.TypeTables.{TypeTables}
 use Rattle.fcg_join.specs.Parts.{types_of, nodes_of}
-use Rattle.fcg_join.specs.PartNames.{set_names, AreSetNames}
+use Rattle.fcg_join.specs.Internal.PartNames.{set_names, AreSetNames}
 use Rattle.fcg_join.specs.TypeLinks.{HasLinks}
-use Rattle.fcg_join.specs.TypeNumbers.{AreHeads, FindsHeads, superclass_numbered}
+use Rattle.fcg_join.specs.Internal.TypeNumbers.{AreHeads, FindsHeads, superclass_numbered}
 use Rattle.fcg_join.specs.Joined.{IsTypeNumber}
 use Rattle.fcg_join.specs.Internal.Inherited.{AreInherited}
 use Rattle.fcg_join.specs.Internal.Nodes.{AreNodeTables}

@@ -1,6 +1,6 @@
 use Rattle.std.proofs.Common.{ℕ, ◌<◌, [], ◌∷◌, ◌++◌, ap, subst, ◌∙◌, arith}
 use Rattle.fcg_join.specs.Parts.{placed_view}
-use Rattle.fcg_join.specs.TypeHeads.{head_of, heads_in}
+use Rattle.fcg_join.specs.Internal.TypeHeads.{head_of, heads_in}
 use Rattle.fcg_join.proofs.CollectedLaws.{collected_next, collected_all}
 use Rattle.fcg_join.proofs.GraphRows.{item}
 use Rattle.fcg_join.proofs.heads.push_heads.Goals as goal

@@ -7,9 +7,9 @@ use Rattle.fcg_analysis.specs.Types.{winners, known}
 use Rattle.fcg_analysis.proofs.WinnerLaws.{winners_distinct}
 use Rattle.fcg_join.specs.declared.heads.TypeHead.{TypeHead}
 use Rattle.fcg_join.specs.Parts.{placed}
-use Rattle.fcg_join.specs.PartNames.{set_names}
-use Rattle.fcg_join.specs.TypeHeads.{IsHead}
-use Rattle.fcg_join.specs.TypeNumbers.{AreHeads}
+use Rattle.fcg_join.specs.Internal.PartNames.{set_names}
+use Rattle.fcg_join.specs.Internal.TypeHeads.{IsHead}
+use Rattle.fcg_join.specs.Internal.TypeNumbers.{AreHeads}
 use Rattle.fcg_join.specs.Winners.{marked}
 use Rattle.fcg_join.proofs.KnownMarks.{known_marks}
 use Rattle.fcg_join.proofs.ZipLaws.{zip_long, zip_marked}

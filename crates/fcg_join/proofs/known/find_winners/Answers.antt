@@ -4,8 +4,8 @@ use Rattle.std.proofs.lemmas.List.{length-map}
 use Rattle.std.proofs.lemmas.Result.{IfOk-weaker}
 use Rattle.fcg_analysis.specs.Types.{winners}
 use Rattle.fcg_join.specs.Parts.{placed}
-use Rattle.fcg_join.specs.PartNames.{set_names, name_there}
-use Rattle.fcg_join.specs.TypeNumbers.{AreHeads}
+use Rattle.fcg_join.specs.Internal.PartNames.{set_names, name_there}
+use Rattle.fcg_join.specs.Internal.TypeNumbers.{AreHeads}
 use Rattle.fcg_join.specs.Winners.{first_marks_after, marked}
 use Rattle.fcg_join.proofs.HeadLaws.{all_heads, names_below, winners_are, all_of_map, marks_long}
 use Rattle.fcg_join.proofs.known.find_winners.Goals as goal

@@ -1,5 +1,5 @@
 use Rattle.std.proofs.Common.{arith}
-use Rattle.fcg_join.specs.TypeHeads.{no_head}
+use Rattle.fcg_join.specs.Internal.TypeHeads.{no_head}
 use Rattle.fcg_join.proofs.HeadLaws.{finds_next, finds_all}
 use Rattle.fcg_join.proofs.known.index_names.Goals as goal
 

@@ -1,4 +1,4 @@
-use Rattle.fcg_join.specs.TypeNumbers.{FindsFirst}
+use Rattle.fcg_join.specs.Internal.TypeNumbers.{FindsFirst}
 use Rattle.fcg_join.proofs.known.index_names.Given as goal
 
 abbrev pub invariant-loop-y : goal.invariant-loop-y

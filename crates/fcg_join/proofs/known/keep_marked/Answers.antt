@@ -1,7 +1,7 @@
 use Rattle.std.proofs.Common.{[], ◌∷◌, ◌++◌, get_or, sym, ap, ◌∙◌, cond}
 use Rattle.std.proofs.lemmas.List.{append-nil}
 use Rattle.fcg_join.specs.Winners.{marked}
-use Rattle.fcg_join.specs.TypeHeads.{no_head}
+use Rattle.fcg_join.specs.Internal.TypeHeads.{no_head}
 use Rattle.fcg_join.proofs.HeadLaws.{kept_next}
 use Rattle.fcg_join.proofs.known.keep_marked.Goals as goal
 use Rattle.fcg_join.proofs.known.keep_marked.Goals.{then-marks-y+in_ok-push, else-marks-y}

@@ -4,7 +4,7 @@ use Rattle.std.proofs.lemmas.List.{get_or-map, length-map}
 use Rattle.std.proofs.lemmas.Option.{slice_get-get_or}
 use Rattle.fcg_grammar.specs.Table.{order}
 use Rattle.fcg_grammar.proofs.TableLaws.{one_row}
-use Rattle.fcg_join.specs.PartNames.{name_there, no_place}
+use Rattle.fcg_join.specs.Internal.PartNames.{name_there, no_place}
 use Rattle.fcg_join.proofs.SearchNames.{searched_less, searched_greater, searched_none}
 use Rattle.fcg_join.proofs.part_names.find_name.Goals as goal
 

@@ -1,6 +1,6 @@
 use Rattle.std.proofs.Common.{◌-◌}
 use Rattle.std.specs.Prelude.{map}
-use Rattle.fcg_join.specs.PartNames.{name_there}
+use Rattle.fcg_join.specs.Internal.PartNames.{name_there}
 use Rattle.fcg_join.specs.Internal.Searched.{IsSearched}
 use Rattle.fcg_join.proofs.part_names.find_name.Given as goal
 

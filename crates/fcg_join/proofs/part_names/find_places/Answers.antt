@@ -1,4 +1,4 @@
-use Rattle.fcg_join.specs.PartNames.{places_in}
+use Rattle.fcg_join.specs.Internal.PartNames.{places_in}
 use Rattle.fcg_join.specs.Internal.Collected.{collected}
 use Rattle.fcg_join.proofs.CollectedLaws.{collected_next, collected_all}
 use Rattle.fcg_join.proofs.part_names.find_places.Goals as goal

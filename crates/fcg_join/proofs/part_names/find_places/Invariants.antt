@@ -1,5 +1,5 @@
 use Rattle.std.proofs.Common.{◌≡◌, ◌++◌, drop}
-use Rattle.fcg_join.specs.PartNames.{places_in}
+use Rattle.fcg_join.specs.Internal.PartNames.{places_in}
 use Rattle.fcg_join.specs.Internal.Collected.{collected}
 use Rattle.fcg_join.proofs.part_names.find_places.Given as goal
 

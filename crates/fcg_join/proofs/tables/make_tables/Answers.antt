@@ -3,9 +3,9 @@ use Rattle.std.specs.Prelude.{IfSome}
 use Rattle.fcg_analysis.proofs.WinnerLaws.{known_distinct}
 use Rattle.fcg_join.specs.declared.heads.TypeHead.{TypeHead}
 use Rattle.fcg_join.specs.Parts.{placed, types_of}
-use Rattle.fcg_join.specs.PartNames.{set_names}
-use Rattle.fcg_join.specs.TypeHeads.{IsHead}
-use Rattle.fcg_join.specs.TypeNumbers.{AreHeads, FindsHeads}
+use Rattle.fcg_join.specs.Internal.PartNames.{set_names}
+use Rattle.fcg_join.specs.Internal.TypeHeads.{IsHead}
+use Rattle.fcg_join.specs.Internal.TypeNumbers.{AreHeads, FindsHeads}
 use Rattle.fcg_join.specs.Internal.Tables.{superclasses_of}
 use Rattle.fcg_join.proofs.ZipLaws.{zip_long}
 use Rattle.fcg_join.proofs.HeadLaws.{all_used_below}

@@ -3,8 +3,8 @@ use Rattle.std.specs.Prelude.{option_to_list}
 use Rattle.fcg_grammar.specs.Table.{place}
 use Rattle.fcg_grammar.proofs.Among.{among_left, among_right}
 use Rattle.fcg_partial.specs.Views.{names_of_super}
-use Rattle.fcg_join.specs.PartNames.{part_names}
-use Rattle.fcg_join.specs.TypeNumbers.{interface_numbered, interfaces_numbered}
+use Rattle.fcg_join.specs.Internal.PartNames.{part_names}
+use Rattle.fcg_join.specs.Internal.TypeNumbers.{interface_numbered, interfaces_numbered}
 use Rattle.fcg_join.proofs.CollectedLaws.{flat_next, flat_all}
 use Rattle.fcg_join.proofs.GraphRows.{item, among_item, named, numbered}
 use Rattle.fcg_join.proofs.type_links.push_interfaces.Goals as goal

@@ -4,8 +4,8 @@ use Rattle.std.proofs.lemmas.Option.{slice_get_within}
 use Rattle.fcg_partial.specs.Parts.{PartShown}
 use Rattle.fcg_join.specs.declared.heads.TypeHead.{TypeHead}
 use Rattle.fcg_join.specs.Parts.{types_of}
-use Rattle.fcg_join.specs.PartNames.{set_names}
-use Rattle.fcg_join.specs.TypeHeads.{IsHead, no_head}
+use Rattle.fcg_join.specs.Internal.PartNames.{set_names}
+use Rattle.fcg_join.specs.Internal.TypeHeads.{IsHead, no_head}
 use Rattle.fcg_join.specs.Internal.Tables.{IsJoined}
 use Rattle.fcg_join.proofs.TableAnswers.{heads_many, head_there}
 use Rattle.fcg_join.proofs.joined.Joined.head.Goals as goal

@@ -19,9 +19,9 @@ use Rattle.fcg_join.specs.declared.tables.TypeTables.{TypeTables}
 use Rattle.fcg_join.specs.declared.part_names.NamePlace.{NamePlace}
 use Rattle.fcg_join.specs.Names.{text_at}
 use Rattle.fcg_join.specs.Parts.{placed, types_of}
-use Rattle.fcg_join.specs.PartNames.{set_names, name_there}
+use Rattle.fcg_join.specs.Internal.PartNames.{set_names, name_there}
 use Rattle.fcg_join.specs.TypeLinks.{HasTypeAt}
-use Rattle.fcg_join.specs.TypeNumbers.{class_numbered}
+use Rattle.fcg_join.specs.Internal.TypeNumbers.{class_numbered}
 use Rattle.fcg_join.specs.Joined.{IsTypeNumber}
 use Rattle.fcg_join.specs.Internal.Tables.{IsJoined}
 use Rattle.fcg_join.specs.Internal.Mentions.{row_of}

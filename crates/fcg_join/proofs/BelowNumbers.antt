@@ -15,9 +15,9 @@ use Rattle.fcg_analysis.specs.Laws.Statements.{IsAcyclic}
 use Rattle.fcg_analysis.proofs.General.Members.{IsIn, Contains-from_IsIn, in_any, and_first, and_second}
 use Rattle.fcg_join.specs.declared.heads.TypeHead.{TypeHead}
 use Rattle.fcg_join.specs.Names.{text_at}
-use Rattle.fcg_join.specs.PartNames.{set_names, all_names}
+use Rattle.fcg_join.specs.Internal.PartNames.{set_names, all_names}
 use Rattle.fcg_join.specs.TypeLinks.{HasTypeAt}
-use Rattle.fcg_join.specs.TypeNumbers.{AreHeads, FindsHeads, class_numbered}
+use Rattle.fcg_join.specs.Internal.TypeNumbers.{AreHeads, FindsHeads, class_numbered}
 use Rattle.fcg_join.specs.TypeTables.{IsUpwardRow, mentions_at, is_class_name}
 use Rattle.fcg_join.specs.Internal.Below.{is_in_line, AreSuperclasses}
 use Rattle.fcg_join.proofs.Places.{place_of, has_in}

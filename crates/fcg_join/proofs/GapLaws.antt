@@ -18,10 +18,10 @@ use Rattle.fcg_analysis.specs.Laws.ByName.{links_to}
 use Rattle.fcg_analysis.proofs.General.Members.{IsIn, IsIn-from_Contains, Contains-from_IsIn, any_in, find_in}
 use Rattle.fcg_analysis.proofs.NameLaws.{find_type, unlinked_by_name}
 use Rattle.fcg_join.specs.declared.heads.TypeHead.{TypeHead}
-use Rattle.fcg_join.specs.PartNames.{set_names}
-use Rattle.fcg_join.specs.TypeHeads.{IsHead, used_superclass}
+use Rattle.fcg_join.specs.Internal.PartNames.{set_names}
+use Rattle.fcg_join.specs.Internal.TypeHeads.{IsHead, used_superclass}
 use Rattle.fcg_join.specs.TypeLinks.{HasTypeAt}
-use Rattle.fcg_join.specs.TypeNumbers.{AreHeads, FindsHeads, head_at, type_numbered}
+use Rattle.fcg_join.specs.Internal.TypeNumbers.{AreHeads, FindsHeads, head_at, type_numbered}
 use Rattle.fcg_join.specs.Joined.{IsTypeNumber}
 use Rattle.fcg_join.specs.Internal.Gaps.{has_number, is_link, lacks_interface, lacks_superclass, lacks_link}
 use Rattle.fcg_join.proofs.Firsts.{same_names}

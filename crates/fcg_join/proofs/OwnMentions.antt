@@ -16,10 +16,10 @@ use Rattle.fcg_analysis.proofs.General.Walking.{led_from_walk}
 use Rattle.fcg_analysis.proofs.WinnerLaws.{known_acyclic}
 use Rattle.fcg_order.specs.Links.{row}
 use Rattle.fcg_join.specs.declared.heads.TypeHead.{TypeHead}
-use Rattle.fcg_join.specs.PartNames.{set_names, all_names}
-use Rattle.fcg_join.specs.TypeHeads.{IsHead, head_of}
+use Rattle.fcg_join.specs.Internal.PartNames.{set_names, all_names}
+use Rattle.fcg_join.specs.Internal.TypeHeads.{IsHead, head_of}
 use Rattle.fcg_join.specs.TypeLinks.{HasTypeAt}
-use Rattle.fcg_join.specs.TypeNumbers.{AreHeads, FindsHeads, head_at, type_numbered}
+use Rattle.fcg_join.specs.Internal.TypeNumbers.{AreHeads, FindsHeads, head_at, type_numbered}
 use Rattle.fcg_join.specs.TypeTables.{HasOwnRows, HasNames, mentions_at, own_mentions}
 use Rattle.fcg_join.specs.Joined.{IsTypeNumber}
 use Rattle.fcg_join.specs.Internal.Mentions.{absent_number, own_numbered}

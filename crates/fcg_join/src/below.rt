@@ -7,7 +7,7 @@ ghost use Rattle.fcg_analysis.specs.NamesAndFlags.{same};
 ghost use Rattle.fcg_analysis.specs.Types.{is_below};
 ghost use Rattle.fcg_join.specs.Names.{text_at};
 ghost use Rattle.fcg_join.specs.Parts.{types_of};
-ghost use Rattle.fcg_join.specs.PartNames.{set_names};
+ghost use Rattle.fcg_join.specs.Internal.PartNames.{set_names};
 ghost use Rattle.fcg_join.specs.TypeLinks.{HasTypeAt};
 ghost use Rattle.fcg_join.specs.Internal.Below.{is_in_line, IsNameNumber, HaveNumbers};
 ghost use Rattle.fcg_join.specs.Internal.Tables.{IsJoined};

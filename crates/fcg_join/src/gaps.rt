@@ -5,9 +5,9 @@ ghost use Rattle.fcg_analysis.specs.Declarations.{Placed, is_type};
 ghost use Rattle.fcg_analysis.specs.Types.{uses_unlinked_name};
 ghost use Rattle.fcg_analysis.specs.Laws.Statements.{IsAcyclic};
 ghost use Rattle.fcg_order.specs.Order.{IsOrder};
-ghost use Rattle.fcg_join.specs.PartNames.{set_names, names_by_number};
+ghost use Rattle.fcg_join.specs.Internal.PartNames.{set_names, names_by_number};
 ghost use Rattle.fcg_join.specs.TypeLinks.{HasLinks};
-ghost use Rattle.fcg_join.specs.TypeNumbers.{AreHeads, FindsHeads, type_numbered};
+ghost use Rattle.fcg_join.specs.Internal.TypeNumbers.{AreHeads, FindsHeads, type_numbered};
 ghost use Rattle.fcg_join.specs.Internal.Gaps.{has_number, is_link, lacks_interface, lacks_link, AreGaps};
 
 use crate::heads::{TypeHead, is_interface};

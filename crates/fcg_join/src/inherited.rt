@@ -1,9 +1,9 @@
 //! What types have from the types above them.
 ghost use Rattle.std.specs.Prelude.{◌≡◌, ◌<◌, ◌^◌, length, IfOk};
 ghost use Rattle.fcg_join.specs.Parts.{types_of};
-ghost use Rattle.fcg_join.specs.PartNames.{set_names, names_by_number};
+ghost use Rattle.fcg_join.specs.Internal.PartNames.{set_names, names_by_number};
 ghost use Rattle.fcg_join.specs.TypeLinks.{HasLinks};
-ghost use Rattle.fcg_join.specs.TypeNumbers.{AreHeads, FindsHeads};
+ghost use Rattle.fcg_join.specs.Internal.TypeNumbers.{AreHeads, FindsHeads};
 ghost use Rattle.fcg_join.specs.Internal.Inherited.{AreInherited};
 
 use crate::gaps::find_gaps;

@@ -4,9 +4,9 @@ ghost use Rattle.fcg_grammar.specs.Table.{place};
 ghost use Rattle.fcg_analysis.specs.Declarations.{Placed, interface_names};
 ghost use Rattle.fcg_order.specs.Order.{IsOrder};
 ghost use Rattle.fcg_join.specs.Parts.{types_of};
-ghost use Rattle.fcg_join.specs.PartNames.{set_names, names_by_number};
+ghost use Rattle.fcg_join.specs.Internal.PartNames.{set_names, names_by_number};
 ghost use Rattle.fcg_join.specs.TypeLinks.{HasLinks};
-ghost use Rattle.fcg_join.specs.TypeNumbers.{AreHeads, FindsHeads};
+ghost use Rattle.fcg_join.specs.Internal.TypeNumbers.{AreHeads, FindsHeads};
 ghost use Rattle.fcg_join.specs.TypeTables.{own_mentions};
 ghost use Rattle.fcg_join.specs.Internal.Mentions.{absent_number, own_numbered, AreMentions};
 

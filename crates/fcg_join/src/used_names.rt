@@ -3,9 +3,9 @@ ghost use Rattle.std.specs.Prelude.{◌≡◌, ◌<◌, ◌++◌, List, ℕ, len
 ghost use Rattle.fcg_grammar.specs.Table.{place};
 ghost use Rattle.fcg_views.specs.declared.view.View.{View};
 ghost use Rattle.fcg_analysis.specs.Declarations.{Placed, interface_names};
-ghost use Rattle.fcg_join.specs.PartNames.{part_names, set_names, names_by_number};
-ghost use Rattle.fcg_join.specs.PartRows.{HasView};
-ghost use Rattle.fcg_join.specs.TypeHeads.{IsHead};
+ghost use Rattle.fcg_join.specs.Internal.PartNames.{part_names, set_names, names_by_number};
+ghost use Rattle.fcg_join.specs.Internal.PartRows.{HasView};
+ghost use Rattle.fcg_join.specs.Internal.TypeHeads.{IsHead};
 
 use crate::heads::{TypeHead, count_interfaces, load_interface};
 use fcg_order::Links as Rows;

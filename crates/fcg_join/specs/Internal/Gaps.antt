@@ -6,7 +6,7 @@ use Rattle.fcg_analysis.specs.Declarations.{Placed}
 use Rattle.fcg_analysis.specs.Types.{above, uses_unlinked_name}
 use Rattle.fcg_join.specs.declared.heads.TypeHead.{TypeHead}
 use Rattle.fcg_join.specs.TypeLinks.{HasTypeAt}
-use Rattle.fcg_join.specs.TypeNumbers.{head_at, type_numbered}
+use Rattle.fcg_join.specs.Internal.TypeNumbers.{head_at, type_numbered}
 
 -- one of the numbers is n
 abbrev pub has_number : ℕ → List ℕ → Bool

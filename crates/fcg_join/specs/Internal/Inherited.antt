@@ -3,7 +3,7 @@ use Rattle.std.specs.Prelude.{List}
 use Rattle.fcg_partial.specs.Parts.{PartShown}
 use Rattle.fcg_join.specs.declared.inherited.InheritedTables.{InheritedTables}
 use Rattle.fcg_join.specs.Parts.{types_of}
-use Rattle.fcg_join.specs.PartNames.{set_names}
+use Rattle.fcg_join.specs.Internal.PartNames.{set_names}
 use Rattle.fcg_join.specs.Internal.Gaps.{AreGaps}
 use Rattle.fcg_join.specs.Internal.Mentions.{AreMentions}
 

@@ -6,7 +6,7 @@ use Rattle.fcg_order.specs.Links.{row}
 use Rattle.fcg_analysis.specs.Declarations.{Placed}
 use Rattle.fcg_join.specs.declared.heads.TypeHead.{TypeHead}
 use Rattle.fcg_join.specs.declared.joined_rows.JoinedRows.{JoinedRows}
-use Rattle.fcg_join.specs.TypeNumbers.{type_numbered}
+use Rattle.fcg_join.specs.Internal.TypeNumbers.{type_numbered}
 use Rattle.fcg_join.specs.TypeTables.{AreUpwardRows, AreJoined, mentions_at}
 
 -- the number of a name, where no known type has the name

@@ -2,7 +2,7 @@ use Rattle.std.proofs.Common.{◌≡◌, ℕ, ◌<◌, List, length, sym, ap, su
 use Rattle.std.specs.Prelude.{Option, Some, None, IfSome, slice_get, Contains}
 use Rattle.fcg_grammar.specs.Table.{Rises}
 use Rattle.fcg_grammar.proofs.TableLaws.{table_rises}
-use Rattle.fcg_join.specs.PartNames.{all_names, set_names}
+use Rattle.fcg_join.specs.Internal.PartNames.{all_names, set_names}
 use Rattle.fcg_join.proofs.TableAnswers.{names_here}
 use Rattle.fcg_join.proofs.BelowAnswers.{is_name_number, number_below}
 use Rattle.fcg_join.proofs.below.find_number.Goals as goal

@@ -6,8 +6,8 @@ use Rattle.fcg_analysis.specs.Declarations.{object_name}
 use Rattle.fcg_join.specs.declared.heads.TypeHead.{TypeHead}
 use Rattle.fcg_join.specs.Names.{text_at}
 use Rattle.fcg_join.specs.Parts.{types_of}
-use Rattle.fcg_join.specs.PartNames.{set_names, name_there}
-use Rattle.fcg_join.specs.TypeNumbers.{class_numbered}
+use Rattle.fcg_join.specs.Internal.PartNames.{set_names, name_there}
+use Rattle.fcg_join.specs.Internal.TypeNumbers.{class_numbered}
 use Rattle.fcg_join.specs.Internal.Below.{is_in_line}
 use Rattle.fcg_join.proofs.TableAnswers.{superclasses_many}
 use Rattle.fcg_join.proofs.BelowAnswers.{below_object_name, supers_within, places_many, name_is, below_class_there, below_row_there}

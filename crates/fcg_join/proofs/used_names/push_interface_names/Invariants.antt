@@ -2,8 +2,8 @@ use Rattle.std.proofs.Common.{◌≡◌, ℕ, List, ◌++◌, drop}
 use Rattle.std.specs.Prelude.{map}
 use Rattle.fcg_grammar.specs.Table.{place}
 use Rattle.fcg_views.specs.declared.view.View.{View}
-use Rattle.fcg_join.specs.PartNames.{part_names}
-use Rattle.fcg_join.specs.PartRows.{HasView}
+use Rattle.fcg_join.specs.Internal.PartNames.{part_names}
+use Rattle.fcg_join.specs.Internal.PartRows.{HasView}
 use Rattle.fcg_join.proofs.used_names.push_interface_names.Given as goal
 
 abbrev pub invariant-loop-j : goal.invariant-loop-j

@@ -1,18 +1,18 @@
 -- The class of a number of a name, and what is at or below the name.
-use Rattle.std.proofs.Common.{◌≡◌, ℕ, ◌<◌, List, [], length, get_or, refl, sym, ap, subst, ◌∙◌, inl, inr}
-use Rattle.std.specs.Prelude.{Bool, true, false, ◌&&◌, ◌||◌, ◌==◌, Option, Some, None, Contains}
+use Rattle.std.proofs.Common.{◌≡◌, ℕ, ◌<◌, List, [], length, sym, ap, ◌∙◌}
+use Rattle.std.specs.Prelude.{true, false, ◌&&◌, ◌||◌, ◌==◌, Option, Some, None}
 use Rattle.std.specs.List.{IsDistinct, list_any}
 use Rattle.std.specs.Cmp.Lexicographic.{bytes_decides}
 use Rattle.std.proofs.lemmas.Bool.{false_from_ne_true}
 use Rattle.fcg_grammar.specs.Table.{place}
-use Rattle.fcg_grammar.proofs.Among.{Among, among_at}
+use Rattle.fcg_grammar.proofs.Among.{among_at}
 use Rattle.fcg_grammar.proofs.TableLaws.{table_rises, place_at}
 use Rattle.fcg_partial.specs.Parts.{PartShown}
 use Rattle.fcg_analysis.specs.NamesAndFlags.{same}
 use Rattle.fcg_analysis.specs.Declarations.{Placed, object_name, is_type, is_named, is_class}
 use Rattle.fcg_analysis.specs.Types.{is_below}
 use Rattle.fcg_analysis.specs.Laws.Statements.{IsAcyclic}
-use Rattle.fcg_analysis.proofs.General.Members.{IsIn, Contains-from_IsIn, in_any, and_first, and_second}
+use Rattle.fcg_analysis.proofs.General.Members.{Contains-from_IsIn, in_any, and_first, and_second}
 use Rattle.fcg_join.specs.declared.heads.TypeHead.{TypeHead}
 use Rattle.fcg_join.specs.Names.{text_at}
 use Rattle.fcg_join.specs.Internal.PartNames.{set_names, all_names}
@@ -20,7 +20,7 @@ use Rattle.fcg_join.specs.TypeLinks.{HasTypeAt}
 use Rattle.fcg_join.specs.Internal.TypeNumbers.{AreHeads, FindsHeads, class_numbered}
 use Rattle.fcg_join.specs.TypeTables.{IsUpwardRow, mentions_at, is_class_name}
 use Rattle.fcg_join.specs.Internal.Below.{is_in_line, AreSuperclasses}
-use Rattle.fcg_join.proofs.Places.{place_of, has_in}
+use Rattle.fcg_join.proofs.Places.{place_of}
 use Rattle.fcg_join.proofs.LinkLaws.{class_is, class_at}
 use Rattle.fcg_join.proofs.MentionRows.{below_by_row}
 use Rattle.fcg_join.proofs.BelowLaws.{below_by_line}

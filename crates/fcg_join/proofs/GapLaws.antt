@@ -1,6 +1,6 @@
 -- Gaps by numbers are those of the definitions.
 use Rattle.std.proofs.Common.{◌≡◌, ℕ, ◌<◌, List, [], ◌∷◌, ◌++◌, length, eqb, get_or, refl, sym, ap, subst, ◌∙◌, inl, inr, cond}
-use Rattle.std.specs.Prelude.{map, Bool, true, false, not, ◌&&◌, ◌||◌, Option, Some, None, IfSome, option_map, option_to_list, slice_get, All}
+use Rattle.std.specs.Prelude.{map, Bool, true, false, not, ◌&&◌, ◌||◌, Option, Some, None, option_map, option_to_list, slice_get, All}
 use Rattle.std.specs.List.{IsDistinct, list_any}
 use Rattle.std.specs.Cmp.{both_ways}
 use Rattle.std.specs.Cmp.Lexicographic.{bytes_decides}
@@ -11,23 +11,23 @@ use Rattle.fcg_grammar.proofs.Among.{Among, among_at}
 use Rattle.fcg_grammar.proofs.TableLaws.{at_place}
 use Rattle.fcg_partial.specs.Parts.{PartShown}
 use Rattle.fcg_partial.specs.Views.{names_of_super}
-use Rattle.fcg_analysis.specs.NamesAndFlags.{same, has, contains}
-use Rattle.fcg_analysis.specs.Declarations.{Placed, is_type, is_named, is_class, is_interface, is_object, superclass_names, interface_names, names_of}
+use Rattle.fcg_analysis.specs.NamesAndFlags.{same, contains}
+use Rattle.fcg_analysis.specs.Declarations.{Placed, is_type, is_named, is_class, is_interface, is_object, superclass_names, interface_names}
 use Rattle.fcg_analysis.specs.Types.{type_named, uses_unlinked_name}
 use Rattle.fcg_analysis.specs.Laws.ByName.{links_to}
 use Rattle.fcg_analysis.proofs.General.Members.{IsIn, IsIn-from_Contains, Contains-from_IsIn, any_in, find_in}
 use Rattle.fcg_analysis.proofs.NameLaws.{find_type, unlinked_by_name}
 use Rattle.fcg_join.specs.declared.heads.TypeHead.{TypeHead}
 use Rattle.fcg_join.specs.Internal.PartNames.{set_names}
-use Rattle.fcg_join.specs.Internal.TypeHeads.{IsHead, used_superclass}
+use Rattle.fcg_join.specs.Internal.TypeHeads.{IsHead}
 use Rattle.fcg_join.specs.TypeLinks.{HasTypeAt}
-use Rattle.fcg_join.specs.Internal.TypeNumbers.{AreHeads, FindsHeads, head_at, type_numbered}
+use Rattle.fcg_join.specs.Internal.TypeNumbers.{AreHeads, FindsHeads, type_numbered}
 use Rattle.fcg_join.specs.Joined.{IsTypeNumber}
 use Rattle.fcg_join.specs.Internal.Gaps.{has_number, is_link, lacks_interface, lacks_superclass, lacks_link}
 use Rattle.fcg_join.proofs.Firsts.{same_names}
 use Rattle.fcg_join.proofs.Places.{place_of, has_in}
 use Rattle.fcg_join.proofs.HeadLaws.{used_is, super_named, interfaces_named, all_of_map}
-use Rattle.fcg_join.proofs.LinkLaws.{HasName, in_among, type_of_number, number_of_type, head_here, flags_are}
+use Rattle.fcg_join.proofs.LinkLaws.{in_among, type_of_number, number_of_type, head_here, flags_are}
 
 -- ---- lists
 

@@ -1,8 +1,8 @@
 -- Rows that are joined one after the other along the order.
 use Rattle.std.proofs.Common.{◌≡◌, ℕ, suc, ◌+◌, ◌<◌, ◌≤◌, List, [], ◌∷◌, ◌++◌, length, eqb, get_or, set, take, drop, min, refl, sym, ap, subst, ◌∙◌, inl, inr, arith}
 use Rattle.std.proofs.Math.Seq.{drop-cons, get_or-append_seam}
-use Rattle.std.specs.Prelude.{◌↔◌, Bool, true, false, ◌⊎◌, flat_map, All, Contains}
-use Rattle.std.specs.List.{IsDistinct, list_any}
+use Rattle.std.specs.Prelude.{◌↔◌, true, ◌⊎◌, flat_map, All, Contains}
+use Rattle.std.specs.List.{list_any}
 use Rattle.std.specs.List.Sorted.{IsStrictlyIncreasing}
 use Rattle.std.proofs.lemmas.Bool.{cases_eq}
 use Rattle.std.proofs.lemmas.Bool.Decides.{Decides-eqb}
@@ -14,7 +14,7 @@ use Rattle.fcg_order.specs.Links.{row, HasLink, IsCircular}
 use Rattle.fcg_order.specs.Order.{IsOrder}
 use Rattle.fcg_join.specs.declared.joined_rows.JoinedRows.{JoinedRows}
 use Rattle.fcg_join.specs.TypeTables.{IsJoinedRow}
-use Rattle.fcg_join.specs.Internal.Mentions.{row_of, HasRow, AreSorted, AreJoinedRows}
+use Rattle.fcg_join.specs.Internal.Mentions.{row_of, AreSorted, AreJoinedRows}
 
 -- the k-th row is that of the k-th node of the order
 pub record IsJoinedAt (links own : List (List ℕ)) (order : List ℕ) (rows : List (List ℕ)) (k : ℕ) : Type 0 where
@@ -115,8 +115,12 @@ module _ (links own : List (List ℕ)) (order : List ℕ) (h : IsOrder links ord
                   let y = in_flat_map row_at (row links (get_or order i 0)) n b in
                   let link : HasLink links (get_or order i 0) y.0 = Contains-from_IsIn _ y.0 y.1 in
                   let e = earlier i y.0 l link in
-                  inr (e.0, e.1, subst (HasLink links (get_or order i 0)) (sym e.2) link,
-                  subst (λ ns. Contains ns n) (row_before e.0 y.0 e.1 e.2 ∙ same_row e.0 e.1) (Contains-from_IsIn (row_at y.0) n y.2))
+                  inr (
+                    e.0,
+                    e.1,
+                    subst (HasLink links (get_or order i 0)) (sym e.2) link,
+                    subst (λ ns. Contains ns n) (row_before e.0 y.0 e.1 e.2 ∙ same_row e.0 e.1) (Contains-from_IsIn (row_at y.0) n y.2),
+                  )
 
           back : Contains (row own (get_or order i 0)) n ⊎ ((j : ℕ) × (j < i) × HasLink links (get_or order i 0) (get_or order j 0) × Contains (row (rows ++ new ∷ []) j) n) → Contains (row (rows ++ new ∷ []) i) n
           back b = subst (λ ns. Contains ns n) (sym last_row) ((sorted.same n).1 (Contains-from_IsIn _ n (at b)))
@@ -180,9 +184,9 @@ module _ (links own : List (List ℕ)) (order : List ℕ) (h : IsOrder links ord
     joined_all = record {
       long = s.long;
       there = λ x l. (
-        let p = place x l in
-        let q : get_or r.places.items x 0 ≡ p.0 = ap (λ z. get_or r.places.items z 0) (sym p.2) ∙ s.placed p.0 p.1 in
-        ((let a = s.long in omega arith), (let a = s.many in let b = p.1 in omega arith)));
+          let p = place x l in
+          let q : get_or r.places.items x 0 ≡ p.0 = ap (λ z. get_or r.places.items z 0) (sym p.2) ∙ s.placed p.0 p.1 in
+          ((let a = s.long in omega arith), (let a = s.many in let b = p.1 in omega arith)));
       joined = λ x l. (let p = place x l in subst (λ y. IsJoinedRow links (row own) (row_of r) y (row_of r y)) p.2 (joined_at p.0 p.1));
       rise = λ x l. (let p = place x l in subst (λ y. IsStrictlyIncreasing (row_of r y)) p.2 (subst IsStrictlyIncreasing (sym (row_is p.0 p.1)) (s.each p.0 p.1).rise));
     }

@@ -1,5 +1,5 @@
 -- What types mention themselves, by numbers.
-use Rattle.std.proofs.Common.{◌≡◌, ℕ, ◌<◌, List, [], ◌∷◌, ◌++◌, length, get_or, refl, sym, ap, subst, ◌∙◌, inl, inr, cond, arith}
+use Rattle.std.proofs.Common.{◌≡◌, ℕ, List, [], ◌∷◌, ◌++◌, length, get_or, refl, sym, ap, subst, ◌∙◌, inl, inr, cond}
 use Rattle.std.specs.Prelude.{map, flat_map, filter, Bool, true, false, ◌↔◌, ◌⊎◌, Option, Some, None, is_none, option_map, option_to_list, slice_get, Contains}
 use Rattle.std.specs.List.{IsDistinct}
 use Rattle.std.proofs.lemmas.Option.{get_or_from_slice_get, slice_get-map}
@@ -17,16 +17,14 @@ use Rattle.fcg_analysis.proofs.WinnerLaws.{known_acyclic}
 use Rattle.fcg_order.specs.Links.{row}
 use Rattle.fcg_join.specs.declared.heads.TypeHead.{TypeHead}
 use Rattle.fcg_join.specs.Internal.PartNames.{set_names, all_names}
-use Rattle.fcg_join.specs.Internal.TypeHeads.{IsHead, head_of}
-use Rattle.fcg_join.specs.TypeLinks.{HasTypeAt}
+use Rattle.fcg_join.specs.Internal.TypeHeads.{IsHead}
 use Rattle.fcg_join.specs.Internal.TypeNumbers.{AreHeads, FindsHeads, head_at, type_numbered}
 use Rattle.fcg_join.specs.TypeTables.{HasOwnRows, HasNames, mentions_at, own_mentions}
 use Rattle.fcg_join.specs.Joined.{IsTypeNumber}
 use Rattle.fcg_join.specs.Internal.Mentions.{absent_number, own_numbered}
 use Rattle.fcg_join.proofs.Places.{place_of, has_in}
-use Rattle.fcg_join.proofs.HeadLaws.{head_named, interfaces_named}
+use Rattle.fcg_join.proofs.HeadLaws.{head_named}
 use Rattle.fcg_join.proofs.JoinedLaws.{head_of_type}
-use Rattle.fcg_join.proofs.LinkLaws.{in_among}
 use Rattle.fcg_join.proofs.GapLaws.{superclass_are, superclass_named, interface_name_named, gives_named}
 use Rattle.fcg_join.proofs.MentionRows.{own_is_mentioned}
 

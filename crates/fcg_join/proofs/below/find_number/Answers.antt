@@ -1,5 +1,4 @@
-use Rattle.std.proofs.Common.{◌≡◌, ℕ, ◌<◌, List, length, sym, ap, subst, ◌∙◌, refl, arith}
-use Rattle.std.specs.Prelude.{Option, Some, None, IfSome, slice_get, Contains}
+use Rattle.std.proofs.Common.{sym, subst, refl}
 use Rattle.fcg_grammar.specs.Table.{Rises}
 use Rattle.fcg_grammar.proofs.TableLaws.{table_rises}
 use Rattle.fcg_join.specs.Internal.PartNames.{all_names, set_names}

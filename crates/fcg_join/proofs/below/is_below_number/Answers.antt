@@ -1,5 +1,5 @@
 use Rattle.std.proofs.Common.{◌≡◌, ℕ, ◌<◌, List, length, get_or, sym, ap, subst, ◌∙◌, arith}
-use Rattle.std.specs.Prelude.{◌==◌, Option, Some, None, true, false}
+use Rattle.std.specs.Prelude.{◌==◌, Option, Some, None, false}
 use Rattle.std.specs.List.{list_any}
 use Rattle.fcg_analysis.specs.NamesAndFlags.{same}
 use Rattle.fcg_analysis.specs.Declarations.{object_name}
@@ -40,8 +40,8 @@ returns-in-Some c = λ t h. (
     let text = c.name_there.ensures ∙ ap (name_there parts) c.index-place.ensures ∙ name_is parts tables c.requires.tables n c.index-place.result.now (omega (arith, c.requires.name)) in
     let other : same object_name (text_at (set_names parts) n) ≡ false = sym (ap (same object_name) text) ∙ sym c.is_object_name.ensures ∙ c.if-is_object_name.false in
     let e : class_numbered tables.heads.items tables.linked.by_name.items n ≡ Some c.in-Some.class =
-        ap (λ (hs : List TypeHead). class_numbered hs tables.linked.by_name.items n) (sym c.as_slice.ensures.value)
-        ∙ ap (λ (bs : List (Option ℕ)). class_numbered c.as_slice.result.now bs n) (sym c.as_slice-by_name.ensures.value) ∙ sym c.find_class.ensures ∙ c.in-Some.is in
+    ap (λ (hs : List TypeHead). class_numbered hs tables.linked.by_name.items n) (sym c.as_slice.ensures.value)
+    ∙ ap (λ (bs : List (Option ℕ)). class_numbered c.as_slice.result.now bs n) (sym c.as_slice-by_name.ensures.value) ∙ sym c.find_class.ensures ∙ c.in-Some.is in
     c.is_in_line.ensures ∙ ap (λ (ss : List (Option ℕ)). is_in_line ss c.in-Some.class (length ss) (Some c.args.x)) c.as_slice-in-Some.ensures.value
     ∙ below_class_there parts tables c.requires.tables c.args.x t h n c.requires.name other c.in-Some.class e)
 
@@ -54,7 +54,7 @@ returns-in-None c = λ t h. (
     let text = c.name_there.ensures ∙ ap (name_there parts) c.index-place.ensures ∙ name_is parts tables c.requires.tables n c.index-place.result.now (omega (arith, c.requires.name)) in
     let other : same object_name (text_at (set_names parts) n) ≡ false = sym (ap (same object_name) text) ∙ sym c.is_object_name.ensures ∙ c.if-is_object_name.false in
     let e : class_numbered tables.heads.items tables.linked.by_name.items n ≡ None =
-        ap (λ (hs : List TypeHead). class_numbered hs tables.linked.by_name.items n) (sym c.as_slice.ensures.value)
-        ∙ ap (λ (bs : List (Option ℕ)). class_numbered c.as_slice.result.now bs n) (sym c.as_slice-by_name.ensures.value) ∙ sym c.find_class.ensures ∙ c.in-None.is in
+    ap (λ (hs : List TypeHead). class_numbered hs tables.linked.by_name.items n) (sym c.as_slice.ensures.value)
+    ∙ ap (λ (bs : List (Option ℕ)). class_numbered c.as_slice.result.now bs n) (sym c.as_slice-by_name.ensures.value) ∙ sym c.find_class.ensures ∙ c.in-None.is in
     c.has_number.ensures ∙ ap (λ (ns : List ℕ). list_any (λ k. k == n) ns) c.row.ensures
     ∙ below_row_there parts tables c.requires.tables c.args.x t h n c.requires.name other e)

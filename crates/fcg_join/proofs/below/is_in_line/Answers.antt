@@ -1,5 +1,5 @@
-use Rattle.std.proofs.Common.{◌≡◌, ℕ, ◌<◌, length, eqb, get_or, sym, ◌∙◌}
-use Rattle.std.specs.Prelude.{None, Some, true, false}
+use Rattle.std.proofs.Common.{◌≡◌, length, eqb, sym, ◌∙◌}
+use Rattle.std.specs.Prelude.{false}
 use Rattle.std.proofs.lemmas.Bool.{false_from_ne_true}
 use Rattle.std.proofs.lemmas.Bool.Decides.{Decides-eqb}
 use Rattle.fcg_join.proofs.BelowLaws.{line_next, line_has}
@@ -12,6 +12,7 @@ returns-then-class-place c =
 
 pub loop-preserved : goal.loop-preserved
 loop-preserved c =
-    let off : eqb c.args.class c.loop.place ≡ false = false_from_ne_true (eqb c.args.class c.loop.place) (λ e. c.if-class-place.false ((Decides-eqb c.args.class c.loop.place).0 e)) in
-    (sym (line_next c.args.superclasses.now c.args.class (length c.args.superclasses.now) c.loop.counter c.loop.place c.in-Some.superclass c.loop-test.true off c.in-Some.is) ∙ c.loop.invariant.0,
-    c.requires.within c.loop.place c.in-Some.superclass c.in-Some.is)
+    let off : eqb c.args.class c.loop.place ≡ false = false_from_ne_true (eqb c.args.class c.loop.place) (λ e. c.if-class-place.false ((Decides-eqb c.args.class c.loop.place).0 e)) in (
+      sym (line_next c.args.superclasses.now c.args.class (length c.args.superclasses.now) c.loop.counter c.loop.place c.in-Some.superclass c.loop-test.true off c.in-Some.is) ∙ c.loop.invariant.0,
+      c.requires.within c.loop.place c.in-Some.superclass c.in-Some.is,
+    )

@@ -1,6 +1,6 @@
-use Rattle.std.proofs.Common.{◌≡◌, ℕ, ◌<◌, ◌≤◌, List, length, sym, ap, subst, ◌∙◌, arith}
+use Rattle.std.proofs.Common.{◌<◌, List, length, subst, arith}
 use Rattle.std.proofs.lemmas.List.{take_all}
-use Rattle.std.specs.Prelude.{All, filter}
+use Rattle.std.specs.Prelude.{filter}
 use Rattle.fcg_analysis.specs.Declarations.{Placed}
 use Rattle.fcg_analysis.specs.Types.{is_below}
 use Rattle.fcg_join.specs.Parts.{types_of}
@@ -19,9 +19,10 @@ loop-x-preserved c =
     let m = heads_many c.args.parts.now c.args.tables.now c.requires in
     let l : c.loop-x.x < length types = omega (arith, c.loop-x-test.true) in
     let t = item types c.loop-x.x l in
-    let e = c.is_below_found-below.ensures t.0 c.args.name.now t.1 c.find_number-number.ensures.value c.is_object_name-is_object.ensures in
-    (listed_next types (λ t. is_below types t c.args.name.now) c.loop-x.x t.0 t.1 c.is_below_found-below.result e c.loop-x.found.items c.push_if.new.row.items c.in_ok-push_if.ensures c.loop-x.invariant.0,
-    within_next (length types) c.loop-x.x l c.is_below_found-below.result c.loop-x.found.items c.push_if.new.row.items c.in_ok-push_if.ensures c.loop-x.invariant.1)
+    let e = c.is_below_found-below.ensures t.0 c.args.name.now t.1 c.find_number-number.ensures.value c.is_object_name-is_object.ensures in (
+      listed_next types (λ t. is_below types t c.args.name.now) c.loop-x.x t.0 t.1 c.is_below_found-below.result e c.loop-x.found.items c.push_if.new.row.items c.in_ok-push_if.ensures c.loop-x.invariant.0,
+      within_next (length types) c.loop-x.x l c.is_below_found-below.result c.loop-x.found.items c.push_if.new.row.items c.in_ok-push_if.ensures c.loop-x.invariant.1,
+    )
 
 pub returns-clause-value : goal.returns-clause-value
 returns-clause-value c =

@@ -1,4 +1,4 @@
-use Rattle.std.proofs.Common.{◌≡◌, ◌<◌, length, take}
+use Rattle.std.proofs.Common.{◌<◌, length, take}
 use Rattle.std.specs.Prelude.{All, filter}
 use Rattle.fcg_analysis.specs.Types.{is_below}
 use Rattle.fcg_join.specs.Parts.{types_of}

@@ -1,7 +1,6 @@
-use Rattle.std.proofs.Common.{◌≡◌, ℕ, ◌<◌, ◌≤◌, ◌++◌, List, length, take, drop, get_or, sym, ap, subst, ◌∙◌, arith}
-use Rattle.std.specs.Prelude.{Bool, false, Option, map}
+use Rattle.std.proofs.Common.{◌≡◌, ℕ, ◌++◌, List, length, take, drop, sym, ap, subst, ◌∙◌, arith}
+use Rattle.std.specs.Prelude.{Bool, Option, map}
 use Rattle.std.proofs.lemmas.List.{length-map, take-append-le, take_all}
-use Rattle.fcg_analysis.specs.Declarations.{Placed}
 use Rattle.fcg_analysis.specs.Types.{uses_unlinked_name}
 use Rattle.fcg_join.specs.Internal.TypeNumbers.{FindsHeads}
 use Rattle.fcg_join.specs.Internal.PartNames.{set_names}
@@ -25,7 +24,7 @@ returns c = λ types are d acyclic h. (
     let value = ap (λ ms. length ms) c.deref_mut.ensures.value in
     let count = c.deref_mut.ensures.len in
     let whole : take c.in_ok-gaps.gaps.len (new ++ drop (length new) old) ≡ new =
-        take-append-le c.in_ok-gaps.gaps.len new (drop (length new) old) (omega arith) ∙ take_all c.in_ok-gaps.gaps.len new (omega arith) in
+    take-append-le c.in_ok-gaps.gaps.len new (drop (length new) old) (omega arith) ∙ take_all c.in_ok-gaps.gaps.len new (omega arith) in
     let filled : IsFilled c.args.linked.now.links old new = subst (λ (ms : List Bool). IsFilled c.args.linked.now.links ms new) c.deref_mut.ensures.value c.fill_upward.ensures in
     subst (AreGaps types) (sym whole) (record {
       long = long;

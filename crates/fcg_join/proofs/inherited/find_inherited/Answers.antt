@@ -1,6 +1,5 @@
-use Rattle.std.proofs.Common.{◌≡◌, ◌<◌, ℕ, List, length, sym, ap, subst, ◌∙◌, arith}
+use Rattle.std.proofs.Common.{arith}
 use Rattle.fcg_analysis.proofs.WinnerLaws.{known_distinct}
-use Rattle.fcg_order.specs.Order.{IsOrder}
 use Rattle.fcg_join.specs.Parts.{placed, types_of}
 use Rattle.fcg_join.proofs.OwnMentions.{known_are_acyclic}
 use Rattle.fcg_join.proofs.inherited.find_inherited.Goals as goal

@@ -1,8 +1,8 @@
-use Rattle.std.proofs.Common.{◌≡◌, ℕ, ◌+◌, ◌<◌, ◌≤◌, ◌^◌, List, [], ◌∷◌, ◌++◌, length, get_or, set, sym, ap, subst, ◌∙◌, arith}
+use Rattle.std.proofs.Common.{◌≡◌, ℕ, ◌+◌, ◌<◌, List, [], ◌∷◌, ◌++◌, length, get_or, sym, subst, arith}
 use Rattle.std.specs.Prelude.{All, flat_map}
 use Rattle.fcg_order.specs.Links.{row}
-use Rattle.fcg_join.specs.Internal.Mentions.{row_of, HasRow, AreSorted}
-use Rattle.fcg_join.proofs.JoinedRowLaws.{AreJoinedTo, joined_none, is_node, few_in_order, few_rows, next_is_node, linked_have_rows, next, joined_all}
+use Rattle.fcg_join.specs.Internal.Mentions.{row_of, AreSorted}
+use Rattle.fcg_join.proofs.JoinedRowLaws.{AreJoinedTo, is_node, few_rows, next_is_node, linked_have_rows, next, joined_all}
 use Rattle.fcg_join.proofs.joined_rows.join_rows.Goals as goal
 
 pub row-requires : goal.row-requires
@@ -32,9 +32,9 @@ loop-node-preserved c =
     let places = c.loop-node.joined.places.items in
     let inherited : List ℕ → List ℕ = flat_map (row_of c.loop-node.joined) in
     let sorted : AreSorted (row own (get_or order i 0) ++ inherited (row links (get_or order i 0))) c.deref.result.now =
-        subst (AreSorted (row own (get_or order i 0) ++ inherited (row links (get_or order i 0)))) (sym c.deref.ensures.value)
-        (subst (λ (ns : List ℕ). AreSorted (row own (get_or order i 0) ++ inherited ns) c.fill_row.new.row.items) c.row-in-loop-node.ensures
-        (subst (λ (ns : List ℕ). AreSorted (ns ++ inherited c.row-in-loop-node.result.now) c.fill_row.new.row.items) c.row.ensures c.in_ok-fill_row.ensures)) in
+    subst (AreSorted (row own (get_or order i 0) ++ inherited (row links (get_or order i 0)))) (sym c.deref.ensures.value)
+    (subst (λ (ns : List ℕ). AreSorted (row own (get_or order i 0) ++ inherited ns) c.fill_row.new.row.items) c.row-in-loop-node.ensures
+    (subst (λ (ns : List ℕ). AreSorted (ns ++ inherited c.row-in-loop-node.result.now) c.fill_row.new.row.items) c.row.ensures c.in_ok-fill_row.ensures)) in
     subst (λ (v : List (List ℕ)). AreJoinedTo links own order v c.add.new.self.places.items (i + 1)) (sym c.in_ok-add.ensures.rows)
     (subst (λ (v : List ℕ). AreJoinedTo links own order (rows ++ c.deref.result.now ∷ []) v (i + 1)) (sym c.in_ok-add.ensures.places)
     (next links own order c.requires.order c.requires.acyclic rows places i c.loop-node-test.true c.loop-node.invariant c.deref.result.now sorted))

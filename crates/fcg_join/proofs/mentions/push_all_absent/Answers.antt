@@ -1,4 +1,4 @@
-use Rattle.std.proofs.Common.{◌≡◌, ◌++◌, get_or, refl, ◌≤◌, length, arith}
+use Rattle.std.proofs.Common.{◌++◌, get_or, arith}
 use Rattle.std.proofs.lemmas.List.{get_or_default}
 use Rattle.std.specs.Prelude.{flat_map}
 use Rattle.fcg_join.specs.Internal.Mentions.{absent_number}

@@ -1,6 +1,5 @@
-use Rattle.std.proofs.Common.{◌≡◌, ℕ, ◌<◌, ◌++◌, List, length, get_or, sym, ap, subst, ◌∙◌, inr, arith}
+use Rattle.std.proofs.Common.{◌≡◌, ℕ, ◌<◌, ◌++◌, List, get_or, ap, subst, ◌∙◌, inr, arith}
 use Rattle.std.specs.Prelude.{map}
-use Rattle.std.proofs.lemmas.List.{get_or_default}
 use Rattle.fcg_grammar.specs.Table.{place}
 use Rattle.fcg_grammar.proofs.Among.{among_left, among_right}
 use Rattle.fcg_partial.specs.Views.{names_of_super}
@@ -22,7 +21,7 @@ loop-j-preserved c = λ names v e h. (
     let own = part_names p in
     let a = named p c.args.k v h x.0 (inr (among_right x.0 (names_of_super v.superclass) _ (among_left x.0 v.interfaces _ (among_item v.interfaces c.loop-j.j x.0 x.1)))) in
     let number : get_or c.args.numbers.now c.load_interface.result 0 ≡ place names x.0 =
-        ap (get_or_at c.args.numbers.now) (c.load_interface.ensures.value v x.0 h x.1) ∙ ap (λ ns. get_or ns (place own x.0) 0) e ∙ numbered names own x.0 0 a in
+    ap (get_or_at c.args.numbers.now) (c.load_interface.ensures.value v x.0 h x.1) ∙ ap (λ ns. get_or ns (place own x.0) 0) e ∙ numbered names own x.0 0 a in
     more_next (place names) v.interfaces c.loop-j.j x.0 (get_or c.args.numbers.now c.load_interface.result 0) c.loop-j.row.items c.push.new.self.items
     (c.args.row.now.items ++ map (place names) v.interfaces) lt x.2 c.in_ok-push.ensures.items number (c.loop-j.invariant names v e h))
   where

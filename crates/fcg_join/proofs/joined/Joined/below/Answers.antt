@@ -1,4 +1,4 @@
-use Rattle.std.proofs.Common.{◌≡◌, ◌<◌, ℕ, List, length, sym, ap, subst, ◌∙◌}
+use Rattle.std.proofs.Common.{◌<◌, List, length, sym, ap, subst, ◌∙◌}
 use Rattle.std.specs.Prelude.{All, filter, map, slice_get}
 use Rattle.fcg_partial.specs.Parts.{PartShown}
 use Rattle.fcg_analysis.specs.Types.{is_below}
@@ -15,7 +15,7 @@ returns-clause-value c =
     let name = c.args.name.now in
     let numbers = c.in_ok-numbers.numbers.items in
     let listed : HaveNumbers types numbers (filter (λ t. is_below types t name) types) =
-        subst (λ (ps : List PartShown). HaveNumbers (types_of ps) numbers (filter (λ t. is_below (types_of ps) t name) (types_of ps))) (c.as_slice.ensures ∙ c.self.view_is) c.in_ok-numbers.ensures.value in
+    subst (λ (ps : List PartShown). HaveNumbers (types_of ps) numbers (filter (λ t. is_below (types_of ps) t name) (types_of ps))) (c.as_slice.ensures ∙ c.self.view_is) c.in_ok-numbers.ensures.value in
     sym (map_twice (slice_get types) (λ (id : TypeId). id.0) c.in_ok-ids.ids.items)
     ∙ ap (map (slice_get types)) (c.in_ok-ids.ensures ∙ c.deref.ensures.value) ∙ listed
 

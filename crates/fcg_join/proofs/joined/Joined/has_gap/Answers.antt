@@ -1,4 +1,4 @@
-use Rattle.std.proofs.Common.{◌≡◌, ◌<◌, List, length, get_or, sym, ap, subst, ◌∙◌, arith}
+use Rattle.std.proofs.Common.{List, get_or, sym, ap, subst, ◌∙◌, arith}
 use Rattle.std.specs.Prelude.{◌||◌, false}
 use Rattle.std.proofs.lemmas.List.{get_or_default}
 use Rattle.fcg_partial.specs.Parts.{PartShown}

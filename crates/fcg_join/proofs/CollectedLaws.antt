@@ -95,3 +95,17 @@ module _ {X Y : Type 0} (f : X → List Y) where
 
   pub flat_all : (xs : List X) (i : ℕ) (old all : List Y) → length xs ≤ i → old ++ flat_map f (drop i xs) ≡ all → old ≡ all
   flat_all xs i old all l h = sym (append-nil old) ∙ ap (λ ys. old ++ ys) (sym (ap (flat_map f) (drop_all i xs l))) ∙ h
+
+module _ {X Y : Type 0} (f : X → Y) where
+  -- one for each element, after others
+  pub more_next : (xs : List X) (i : ℕ) (x : X) (y : Y) (old new all : List Y) → i < length xs → x ≡ get_or xs i x → new ≡ old ++ y ∷ [] → y ≡ f x
+      → old ++ map f (drop i xs) ≡ all → new ++ map f (drop (i + 1) xs) ≡ all
+  more_next xs i x y old new all l at e is h =
+      ap (λ ys. ys ++ map f (drop (i + 1) xs)) e
+      ∙ append_assoc old (y ∷ []) (map f (drop (i + 1) xs))
+      ∙ ap (λ z. old ++ z ∷ map f (drop (i + 1) xs)) (is ∙ ap f at)
+      ∙ ap (λ ys. old ++ ys) (sym (ap (map f) (drop_more xs i x l)))
+      ∙ h
+
+  pub more_all : (xs : List X) (i : ℕ) (old all : List Y) → length xs ≤ i → old ++ map f (drop i xs) ≡ all → old ≡ all
+  more_all xs i old all l h = sym (append-nil old) ∙ ap (λ ys. old ++ ys) (sym (ap (map f) (drop_all i xs l))) ∙ h

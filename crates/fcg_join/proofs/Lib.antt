@@ -24,6 +24,12 @@ pub mod LinkRows
 pub mod WinnerPlaces
 pub mod SuperRows
 pub mod JoinedLaws
+pub mod GapLaws
+pub mod JoinedRowLaws
+pub mod OwnMentions
+pub mod BelowLaws
+pub mod BelowNumbers
 pub mod TableAnswers
+pub mod BelowAnswers
 pub mod SearchNames
 pub mod NodeTableLaws

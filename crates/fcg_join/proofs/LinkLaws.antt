@@ -35,7 +35,7 @@ option_in : (o : Option ℕ) (y : ℕ) → o ≡ Some y → IsIn y (option_to_li
 option_in None y e = absurd cc
 option_in (Some z) y e = inl (same_Some z y e)
 
-in_among : (x : List ℕ) (xs : List (List ℕ)) → IsIn x xs → Among x xs
+pub in_among : (x : List ℕ) (xs : List (List ℕ)) → IsIn x xs → Among x xs
 in_among x [] i = i
 in_among x (y ∷ ys) (inl e) = inl e
 in_among x (y ∷ ys) (inr i) = inr (in_among x ys i)
@@ -79,11 +79,11 @@ module _ (parts : List PartShown) (heads : List TypeHead) (types : List Placed) 
       let back : t.0 ≡ y = one_place types t.0 y u d (subst (λ (v : Placed). HasTypeAt types t.0 v) (sym same) w.here) h in
       e ∙ ap (λ (n : ℕ). Some n) back
 
-  flags_are : (y : ℕ) (u : Placed) → IsHead parts N (head_at heads y) u → has 0x0200 (head_at heads y).flags ≡ is_interface u
+  pub flags_are : (y : ℕ) (u : Placed) → IsHead parts N (head_at heads y) u → has 0x0200 (head_at heads y).flags ≡ is_interface u
   flags_are y u is = ap (λ (g : TypeHead). has 0x0200 g.flags) is.head_is
 
   -- ---- the class and the interface of a name
-  class_is : (n : List ℕ) → Among n N → (y : ℕ) → class_numbered heads by_name (place N n) ≡ Some y → (r : HasName n y) × (is_class r.type ≡ true)
+  pub class_is : (n : List ℕ) → Among n N → (y : ℕ) → class_numbered heads by_name (place N n) ≡ Some y → (r : HasName n y) × (is_class r.type ≡ true)
   class_is n a y e = at (type_numbered by_name (place N n)) refl e
     where
       at : (o : Option ℕ) → type_numbered by_name (place N n) ≡ o → option_and_then (λ z. cond (has 0x0200 (head_at heads z).flags) None (Some z)) o ≡ Some y
@@ -97,7 +97,7 @@ module _ (parts : List PartShown) (heads : List TypeHead) (types : List Placed) 
           by_kind true z r k e = absurd cc
           by_kind false z r k e = subst (λ (m : ℕ). (r : HasName n m) × (is_class r.type ≡ true)) (same_Some z y e) (r, ap not k)
 
-  class_at : (y : ℕ) (u : Placed) → HasTypeAt types y u → is_class u ≡ true → class_numbered heads by_name (place N u.view.name) ≡ Some y
+  pub class_at : (y : ℕ) (u : Placed) → HasTypeAt types y u → is_class u ≡ true → class_numbered heads by_name (place N u.view.name) ≡ Some y
   class_at y u h k =
       ap (option_and_then (λ z. cond (has 0x0200 (head_at heads z).flags) None (Some z))) (number_of_type y u h)
       ∙ ap (λ b. cond b None (Some y)) (flags_are y u (head_here y u h) ∙ no_interface (is_interface u) k)

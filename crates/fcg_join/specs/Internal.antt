@@ -2,6 +2,10 @@
 pub mod Numbering
 pub mod Collected
 pub mod Tables
+pub mod Gaps
+pub mod Mentions
+pub mod Below
+pub mod Inherited
 pub mod Searched
 pub mod Nodes
 pub mod PartNames

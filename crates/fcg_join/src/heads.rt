@@ -43,7 +43,7 @@ pub(crate) fn is_interface(flags: u16) -> bool
     flags & INTERFACE != 0
 }
 
-fn is_object_name(name: &[u8]) -> bool
+pub(crate) fn is_object_name(name: &[u8]) -> bool
     ensures { result ≡ same object_name name.now }
 {
     OBJECT == name

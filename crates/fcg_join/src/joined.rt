@@ -28,8 +28,8 @@ const MOST_BYTES: u64 = 268_435_456;
 /// The known types of some parts, with their links and their methods. Contracts see it as the parts.
 #[derive(Drop)]
 pub struct Joined {
-    parts: Parts,
-    tables: TypeTables,
+    pub(crate) parts: Parts,
+    pub(crate) tables: TypeTables,
 }
 
 impl Model for Joined {

@@ -6,11 +6,17 @@
 //! on the rules of the analysis, and on links by numbers.
 #![tactic(auto)]
 
+mod below;
+mod gaps;
 mod heads;
 mod id;
+mod inherited;
 mod joined;
+mod joined_below;
+mod joined_rows;
 mod known;
 mod laws;
+mod mentions;
 mod names;
 mod node_laws;
 mod nodes;
@@ -19,6 +25,7 @@ mod place_laws;
 mod table_laws;
 mod tables;
 mod type_links;
+mod used_names;
 mod winners;
 
 pub use id::{MethodId, TypeId};

@@ -5,6 +5,7 @@ ghost use Rattle.fcg_join.specs.Internal.Tables.{is_object_class, IsJoined};
 ghost use Rattle.fcg_join.specs.Internal.TypeNumbers.{head_at};
 
 use crate::heads::{TypeHead, is_interface};
+use crate::inherited::{InheritedTables, find_inherited};
 use crate::known::{TypeLinks, find_known, link_types};
 use crate::nodes::{NodeTables, number_nodes};
 use crate::part_names::{SetNames, number_part_names};
@@ -23,6 +24,7 @@ pub struct TypeTables {
     /// Object, where it is known as a class.
     pub object: Option<u32>,
     pub nodes: NodeTables,
+    pub inherited: InheritedTables,
 }
 
 // Whether it is Object, and a class.
@@ -57,6 +59,7 @@ pub(crate) fn make_tables(alloc: Global, parts: &[Part]) -> Result<TypeTables, A
     let superclasses = find_superclasses(alloc, heads.as_slice(), linked.by_name.as_slice())?;
     let object = find_object(heads.as_slice());
     let nodes = number_nodes(alloc, heads.as_slice())?;
+    let inherited = find_inherited(alloc, parts, &names.numbers, heads.as_slice(), &linked)?;
     Ok(TypeTables {
         names,
         heads,
@@ -64,5 +67,6 @@ pub(crate) fn make_tables(alloc: Global, parts: &[Part]) -> Result<TypeTables, A
         superclasses,
         object,
         nodes,
+        inherited,
     })
 }

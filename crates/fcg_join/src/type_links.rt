@@ -24,7 +24,7 @@ fn push_found(row: &mut Vec<u32>, found: Option<u32>) -> Result<(), AllocError>
 }
 
 // The class that has the name of a number.
-fn find_class(heads: &[TypeHead], by_name: &[Option<u32>], name: u32) -> Option<u32>
+pub(crate) fn find_class(heads: &[TypeHead], by_name: &[Option<u32>], name: u32) -> Option<u32>
     requires name { name < length by_name.now }
     requires found { FindsHeads heads.now by_name.now (length by_name.now) }
     ensures { result ≡ class_numbered heads.now by_name.now name }

@@ -10,6 +10,7 @@ use Rattle.fcg_join.specs.Internal.PartNames.{set_names, AreSetNames}
 use Rattle.fcg_join.specs.TypeLinks.{HasLinks}
 use Rattle.fcg_join.specs.Internal.TypeNumbers.{AreHeads, FindsHeads, superclass_numbered}
 use Rattle.fcg_join.specs.Joined.{IsTypeNumber}
+use Rattle.fcg_join.specs.Internal.Inherited.{AreInherited}
 use Rattle.fcg_join.specs.Internal.Nodes.{AreNodeTables}
 
 abbrev pub is_object_class : TypeHead → Bool
@@ -30,6 +31,7 @@ pub record IsJoined (parts : List PartShown) (t : TypeTables) : Type 0 where
   pub object' : IsTypeNumber (types_of parts) t.object (object (types_of parts))
   pub few_nodes : length (nodes_of parts) < 2 ^ 32
   pub nodes' : AreNodeTables (types_of parts) t.nodes.firsts.items t.nodes.owners.items
+  pub inherited' : AreInherited parts t.inherited
 
 -- the next of a chain: the superclass, or else Object, unless the chain ends
 abbrev pub next_numbered : Option ℕ → Bool → Option ℕ → Option ℕ

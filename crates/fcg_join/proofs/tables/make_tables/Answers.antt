@@ -71,6 +71,7 @@ returns c =
       superclasses = c.in_ok-superclasses.ensures ∙ ap (λ (hs : List TypeHead). superclasses_of hs c.as_slice-3.result.now) c.as_slice-2.ensures.value ∙ ap (superclasses_of heads) c.as_slice-3.ensures.value;
       object' = gives_object parts c.as_slice-4.result.now (types_of parts) are4 d c.find_object-object.result c.find_object-object.ensures.found c.find_object-object.ensures.none;
       few_nodes = (let m = few_methods parts in let n = count_is (types_of parts) in omega (arith, c.requires));
+      inherited' = c.in_ok-inherited.ensures;
       nodes' = c.in_ok-nodes.ensures (types_of parts) (subst (λ (hs : List TypeHead). HaveMethods hs (types_of parts)) (sym c.as_slice-5.ensures.value) (have_methods parts heads (types_of parts) c.in_ok-heads.ensures));
     }
 
@@ -87,3 +88,23 @@ number_nodes-requires-clause-methods c =
     let parts = c.args.parts.now in
     let m = few_methods parts in
     (types_of parts, subst (λ (hs : List TypeHead). HaveMethods hs (types_of parts)) (sym c.as_slice-5.ensures.value) (have_methods parts c.in_ok-heads.heads.items (types_of parts) c.in_ok-heads.ensures), omega (arith, c.requires))
+
+pub find_inherited-requires-clause-few : goal.find_inherited-requires-clause-few
+find_inherited-requires-clause-few c =
+    let f = are_few c.args.parts.now in
+    let k = few_known (placed c.args.parts.now) in
+    omega (arith, f.views_few, c.requires)
+
+pub find_inherited-requires-clause-heads : goal.find_inherited-requires-clause-heads
+find_inherited-requires-clause-heads c =
+    subst (λ (hs : List TypeHead). AreHeads c.args.parts.now hs (types_of c.args.parts.now)) (sym c.as_slice-6.ensures.value) c.in_ok-heads.ensures
+
+pub find_inherited-requires-clause-found : goal.find_inherited-requires-clause-found
+find_inherited-requires-clause-found c =
+    subst (λ (hs : List TypeHead). FindsHeads hs c.in_ok-linked.linked.by_name.items (length (set_names c.args.parts.now))) (c.as_slice.ensures.value ∙ sym c.as_slice-6.ensures.value) c.in_ok-linked.ensures.by_name
+
+pub find_inherited-requires-clause-links : goal.find_inherited-requires-clause-links
+find_inherited-requires-clause-links c =
+    let parts = c.args.parts.now in
+    let are : AreHeads parts c.as_slice.result.now (types_of parts) = subst (λ (hs : List TypeHead). AreHeads parts hs (types_of parts)) (sym c.as_slice.ensures.value) c.in_ok-heads.ensures in
+    c.in_ok-linked.ensures.links (types_of parts) are (known_distinct (placed parts))

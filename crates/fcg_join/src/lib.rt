@@ -1,9 +1,10 @@
 //! Joining: the types of a set, read together from stored graphs by numbers. Names are numbered in the order of their bytes
-//! over all parts, winners are found by the numbers of their names, circular types by one search, and links, chains and
-//! nodes by tables of numbers. What was joined is seen as its parts, and each accessor by the rules of the analysis. Laws say
-//! which tables by numbers are those of these rules: circles and known types, links, gaps, what is at or below a name, nodes,
-//! declared methods and superinterface methods. The crate stands on the words of formats, on the views and the stored graphs,
-//! on the rules of the analysis, and on links by numbers.
+//! over all parts, winners are found by the numbers of their names, circular types by one search, links, chains and nodes by
+//! tables of numbers, and gaps and what is at or below a name by tables that are filled along the order against the links.
+//! What was joined is seen as its parts, and each accessor by the rules of the analysis. Laws say which tables by numbers are
+//! those of these rules: circles and known types, links, gaps, what is at or below a name, nodes, declared methods and
+//! superinterface methods. The crate stands on the words of formats, on the views and the stored graphs, on the rules of the
+//! analysis, and on links by numbers.
 #![tactic(auto)]
 
 mod below;

@@ -33,7 +33,7 @@ fn part_of(alloc: Global, coordinate: &str, types: &str) -> Result<Part, Fail> {
 }
 
 // Releases, each a coordinate and its types, joined.
-fn join(alloc: Global, releases: &[(&str, &str)]) -> Result<Joined, Fail> {
+pub(crate) fn join(alloc: Global, releases: &[(&str, &str)]) -> Result<Joined, Fail> {
     let mut parts = Vec::new(alloc);
     for (coordinate, types) in releases {
         parts.push(part_of(alloc, coordinate, types)?)?;

@@ -27,3 +27,5 @@ pub mod JoinedLaws
 pub mod TableAnswers
 pub mod SearchNames
 pub mod NodeTableLaws
+pub mod MethodLaws
+pub mod MethodRows

@@ -9,8 +9,10 @@
 mod heads;
 mod id;
 mod joined;
+mod joined_methods;
 mod known;
 mod laws;
+mod methods;
 mod names;
 mod node_laws;
 mod nodes;
@@ -21,7 +23,7 @@ mod tables;
 mod type_links;
 mod winners;
 
-pub use id::{MethodId, TypeId};
+pub use id::{MethodId, TypeId, TypeOrigin};
 pub use joined::Joined;
 pub use laws::{
     below_by_tables, circles_by_numbers, gaps_by_tables, known_by_marks, links_by_names,

@@ -8,7 +8,8 @@ use Rattle.fcg_grammar.proofs.Among.{Among, among_left, among_right, among_flat}
 use Rattle.fcg_grammar.proofs.TableLaws.{table_among, at_place}
 use Rattle.fcg_views.specs.declared.view.View.{View}
 use Rattle.fcg_partial.specs.Graph.{StoredType}
-use Rattle.fcg_partial.specs.Views.{graph_of, names_of, refs_of, type_row, super_number_of, mentions, names_of_view, names_of_ref, names_of_super, targets_of}
+use Rattle.fcg_views.specs.NamesIn.{names_of_ref, names_of_super}
+use Rattle.fcg_partial.specs.Views.{graph_of, names_of, refs_of, type_row, super_number_of, mentions, names_of_view, targets_of}
 use Rattle.fcg_partial.specs.Accessors.{HasType, HasInterface, row_of_type, type_in, no_type}
 use Rattle.fcg_partial.specs.declared.row.TypeRow.{TypeRow}
 use Rattle.fcg_partial.specs.Parts.{PartShown}
@@ -52,7 +53,7 @@ module _ (p : PartShown) (k : ℕ) (v : View) (h : HasView p k v) where
           let c : length t.methods ≡ length v.methods = length-map v.methods (Rattle.fcg_partial.specs.Views.method_row nm (refs_of nm p.views)) in
           λ i. record { name = place nm v.name; flags = v.flags; superclass = super_number_of nm v.superclass; interfaces = a i; fields = b i; methods = c i }
 
-  type_there : HasType (graph_of p.views) k (type_row (part_names p) (refs_of (part_names p) p.views) v)
+  pub type_there : HasType (graph_of p.views) k (type_row (part_names p) (refs_of (part_names p) p.views) v)
   unfolding graph_of
   type_there = slice_get-map (type_row (names_of p.views) (refs_of (names_of p.views) p.views)) p.views k ∙ ap (option_map (type_row (names_of p.views) (refs_of (names_of p.views) p.views))) h
 

@@ -10,7 +10,8 @@ use Rattle.fcg_grammar.proofs.Among.{Among, among_flat, among_left, among_right,
 use Rattle.fcg_grammar.proofs.TableLaws.{table_among, at_place}
 use Rattle.fcg_views.specs.declared.view.View.{View}
 use Rattle.fcg_partial.specs.Parts.{PartShown}
-use Rattle.fcg_partial.specs.Views.{names_of_view, names_of_super}
+use Rattle.fcg_views.specs.NamesIn.{names_of_super}
+use Rattle.fcg_partial.specs.Views.{names_of_view}
 use Rattle.fcg_analysis.specs.Declarations.{Placed, is_object, is_interface, interface_names}
 use Rattle.fcg_analysis.specs.Types.{winners}
 use Rattle.fcg_analysis.proofs.General.Members.{IsIn}

@@ -33,3 +33,5 @@ pub mod TableAnswers
 pub mod BelowAnswers
 pub mod SearchNames
 pub mod NodeTableLaws
+pub mod MethodLaws
+pub mod MethodRows

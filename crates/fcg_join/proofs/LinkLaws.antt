@@ -9,7 +9,7 @@ use Rattle.std.proofs.lemmas.List.{length-map}
 use Rattle.fcg_grammar.specs.Table.{place}
 use Rattle.fcg_grammar.proofs.Among.{Among}
 use Rattle.fcg_partial.specs.Parts.{PartShown}
-use Rattle.fcg_partial.specs.Views.{names_of_super}
+use Rattle.fcg_views.specs.NamesIn.{names_of_super}
 use Rattle.fcg_analysis.specs.NamesAndFlags.{same, has, contains}
 use Rattle.fcg_analysis.specs.Declarations.{Placed, is_type, is_class, is_interface, is_object, superclass_names, interface_names}
 use Rattle.fcg_analysis.specs.Types.{links, extends, implements}

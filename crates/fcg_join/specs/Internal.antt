@@ -12,3 +12,4 @@ pub mod PartNames
 pub mod PartRows
 pub mod TypeHeads
 pub mod TypeNumbers
+pub mod MethodRows

@@ -7,9 +7,10 @@ ghost use Rattle.fcg_analysis.specs.Declarations.{Placed};
 ghost use Rattle.fcg_analysis.specs.Types.{superclass, type_named};
 ghost use Rattle.fcg_analysis.specs.Nodes.{Node};
 ghost use Rattle.fcg_analysis.specs.Laws.ChainParts.{next_in_chain};
+ghost use Rattle.fcg_analysis.specs.Laws.Methods.{first_node};
 ghost use Rattle.fcg_join.specs.Parts.{types_of, nodes_of};
 ghost use Rattle.fcg_join.specs.Internal.PartNames.{set_names};
-ghost use Rattle.fcg_join.specs.Internal.TypeHeads.{IsHead};
+ghost use Rattle.fcg_join.specs.Internal.TypeHeads.{IsHead, IsFirstHead};
 ghost use Rattle.fcg_join.specs.Joined.{HasType, HasNode, GivesType};
 ghost use Rattle.fcg_join.specs.Internal.Tables.{next_numbered};
 
@@ -136,9 +137,10 @@ impl Joined {
     }
 
     // The type of a number, by the numbers of names.
-    fn head(&self, t: TypeId) -> TypeHead
+    pub(crate) fn head(&self, t: TypeId) -> TypeHead
         requires { t.0 < length (types_of self.now) }
-        ensures { (x : Placed) → HasType self.now t x → IsHead self.now (set_names self.now) result x }
+        ensures value { (x : Placed) → HasType self.now t x → IsHead self.now (set_names self.now) result x }
+        ensures first { IsFirstHead self.now result }
     {
         self.tables.heads[t.0 as usize]
     }
@@ -201,5 +203,13 @@ impl Joined {
         ensures range { result.0 < length (types_of self.now) }
     {
         TypeId(self.tables.nodes.owners[m.0 as usize])
+    }
+
+    // The number of a type's first method.
+    pub(crate) fn first_method(&self, t: TypeId) -> u32
+        requires { t.0 < length (types_of self.now) }
+        ensures { result ≡ first_node (types_of self.now) t.0 }
+    {
+        self.tables.nodes.firsts[t.0 as usize]
     }
 }

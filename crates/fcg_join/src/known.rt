@@ -5,6 +5,7 @@ ghost use Rattle.fcg_analysis.specs.Declarations.{Placed, is_type};
 ghost use Rattle.fcg_analysis.specs.Types.{winners, known};
 ghost use Rattle.fcg_join.specs.Parts.{placed};
 ghost use Rattle.fcg_join.specs.Internal.PartNames.{AreSetNames, set_names};
+ghost use Rattle.fcg_join.specs.Internal.TypeHeads.{IsFirstHead};
 ghost use Rattle.fcg_join.specs.Internal.TypeNumbers.{AreHeads, FindsFirst, FindsHeads};
 ghost use Rattle.fcg_join.specs.TypeLinks.{HasLinks};
 ghost use Rattle.fcg_join.specs.Winners.{marked};
@@ -82,7 +83,8 @@ fn find_winners(
 ) -> Result<Vec<TypeHead>, AllocError>
     requires few { length parts.now < 2 ^ 32 }
     requires names { AreSetNames parts.now names.now }
-    ensures { IfOk result (λ heads. AreHeads parts.now heads.items (winners (placed parts.now))) }
+    ensures value { IfOk result (λ heads. AreHeads parts.now heads.items (winners (placed parts.now))) }
+    ensures first { IfOk result (λ heads. All (IsFirstHead parts.now) heads.items) }
 {
     let heads = find_heads(alloc, parts, &names.numbers)?;
     let numbers = collect_head_names(alloc, &heads)?;
@@ -126,7 +128,8 @@ pub(crate) fn find_known(
     requires few { length parts.now < 2 ^ 32 }
     requires types { length (placed parts.now) < 2 ^ 32 }
     requires names { AreSetNames parts.now names.now }
-    ensures { IfOk result (λ heads. AreHeads parts.now heads.items (known (placed parts.now))) }
+    ensures value { IfOk result (λ heads. AreHeads parts.now heads.items (known (placed parts.now))) }
+    ensures first { IfOk result (λ heads. All (IsFirstHead parts.now) heads.items) }
 {
     let winners = find_winners(alloc, parts, names)?;
     let heads = winners.as_slice();

@@ -14,10 +14,12 @@ mod id;
 mod inherited;
 mod joined;
 mod joined_below;
+mod joined_methods;
 mod joined_rows;
 mod known;
 mod laws;
 mod mentions;
+mod methods;
 mod names;
 mod node_laws;
 mod nodes;
@@ -29,7 +31,7 @@ mod type_links;
 mod used_names;
 mod winners;
 
-pub use id::{MethodId, TypeId};
+pub use id::{MethodId, TypeId, TypeOrigin};
 pub use joined::Joined;
 pub use laws::{
     below_by_tables, circles_by_numbers, gaps_by_tables, known_by_marks, links_by_names,

@@ -1,5 +1,5 @@
 -- The tables of a Joined.
-use Rattle.std.specs.Prelude.{◌≡◌, ℕ, ◌^◌, ◌<◌, List, Bool, not, ◌&&◌, Option, Some, None, length, map, if◌then◌else◌}
+use Rattle.std.specs.Prelude.{◌≡◌, ℕ, ◌^◌, ◌<◌, List, All, Bool, not, ◌&&◌, Option, Some, None, length, map, if◌then◌else◌}
 use Rattle.fcg_partial.specs.Parts.{PartShown}
 use Rattle.fcg_analysis.specs.NamesAndFlags.{has}
 use Rattle.fcg_analysis.specs.Types.{object}
@@ -8,6 +8,7 @@ use Rattle.fcg_join.specs.declared.tables.TypeTables.{TypeTables}
 use Rattle.fcg_join.specs.Parts.{types_of, nodes_of}
 use Rattle.fcg_join.specs.Internal.PartNames.{set_names, AreSetNames}
 use Rattle.fcg_join.specs.TypeLinks.{HasLinks}
+use Rattle.fcg_join.specs.Internal.TypeHeads.{IsFirstHead}
 use Rattle.fcg_join.specs.Internal.TypeNumbers.{AreHeads, FindsHeads, superclass_numbered}
 use Rattle.fcg_join.specs.Joined.{IsTypeNumber}
 use Rattle.fcg_join.specs.Internal.Inherited.{AreInherited}
@@ -25,6 +26,7 @@ pub record IsJoined (parts : List PartShown) (t : TypeTables) : Type 0 where
   pub few_names : length (set_names parts) < 2 ^ 32
   pub names : AreSetNames parts t.names
   pub heads : AreHeads parts t.heads.items (types_of parts)
+  pub first_heads : All (IsFirstHead parts) t.heads.items
   pub by_name : FindsHeads t.heads.items t.linked.by_name.items (length (set_names parts))
   pub links : HasLinks (types_of parts) t.linked.links
   pub superclasses : t.superclasses.items ≡ superclasses_of t.heads.items t.linked.by_name.items

@@ -1,11 +1,12 @@
 -- Types by numbers, without the lists of interfaces and of methods.
-use Rattle.std.specs.Prelude.{◌≡◌, ℕ, List, [], ◌∷◌, Option, None, false, ◌||◌, length, option_map, Some, slice_get, if◌then◌else◌}
+use Rattle.std.specs.Prelude.{◌≡◌, ℕ, ◌+◌, List, [], ◌∷◌, Option, None, false, ◌||◌, length, option_map, position, Some, slice_get, take, if◌then◌else◌}
 use Rattle.fcg_grammar.specs.Table.{place}
 use Rattle.fcg_views.specs.declared.view.View.{View}
 use Rattle.fcg_partial.specs.Parts.{PartShown}
-use Rattle.fcg_analysis.specs.Declarations.{Placed, is_object, is_interface}
+use Rattle.fcg_analysis.specs.Declarations.{Placed, is_type, is_object, is_interface}
 use Rattle.fcg_join.specs.declared.heads.TypeHead.{TypeHead}
-use Rattle.fcg_join.specs.Parts.{placed_view}
+use Rattle.fcg_join.specs.Parts.{placed_view, placed, views_before}
+use Rattle.fcg_join.specs.Internal.PartNames.{set_names}
 use Rattle.fcg_join.specs.Internal.PartRows.{HasView}
 use Rattle.fcg_join.specs.Internal.Collected.{collected}
 
@@ -40,6 +41,10 @@ pub record IsHead (parts : List PartShown) (names : List (List ℕ)) (h : TypeHe
   pub view_is : HasView part h.place view
   pub type_is : placed_view part view ≡ t
   pub head_is : h ≡ head_of names h.part h.place t
+
+-- no view of the type's name stands before it
+abbrev pub IsFirstHead : List PartShown → TypeHead → Type 0
+IsFirstHead parts h = (t : Placed) → IsHead parts (set_names parts) h t → position (is_type t) (placed parts) ≡ Some (views_before (take h.part parts) + h.place)
 
 abbrev pub no_head : TypeHead
 no_head = record { part = 0; place = 0; name = 0; flags = 0; is_object = false; superclass = None; methods = 0 }

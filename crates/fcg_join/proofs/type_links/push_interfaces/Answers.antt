@@ -2,7 +2,7 @@ use Rattle.std.proofs.Common.{◌≡◌, ℕ, ◌<◌, ◌++◌, List, get_or, a
 use Rattle.std.specs.Prelude.{option_to_list}
 use Rattle.fcg_grammar.specs.Table.{place}
 use Rattle.fcg_grammar.proofs.Among.{among_left, among_right}
-use Rattle.fcg_partial.specs.Views.{names_of_super}
+use Rattle.fcg_views.specs.NamesIn.{names_of_super}
 use Rattle.fcg_join.specs.Internal.PartNames.{part_names}
 use Rattle.fcg_join.specs.Internal.TypeNumbers.{interface_numbered, interfaces_numbered}
 use Rattle.fcg_join.proofs.CollectedLaws.{flat_next, flat_all}

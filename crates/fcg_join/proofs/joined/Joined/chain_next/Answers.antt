@@ -26,7 +26,7 @@ returns-clause-value c = λ x h. (
     let m = superclasses_many c.args.self.now c.self.inside.tables j in
     let super : c.index-superclass.result.now ≡ get_or c.self.inside.tables.superclasses.items c.args.t.0 None =
     c.index-superclass.ensures ∙ get_or_default c.self.inside.tables.superclasses.items c.args.t.0 c.index-superclass.result.now None (omega (arith, c.requires)) in
-    let ends : c.ends_chain-ends.result ≡ (is_object x || is_interface x) = c.ends_chain-ends.ensures ∙ ap (λ (g : TypeHead). g.is_object || has 0x0200 g.flags) (c.head.ensures x h).head_is in
+    let ends : c.ends_chain-ends.result ≡ (is_object x || is_interface x) = c.ends_chain-ends.ensures ∙ ap (λ (g : TypeHead). g.is_object || has 0x0200 g.flags) (c.head.ensures.value x h).head_is in
     let e = c.type_id.ensures ∙ c.next_number.ensures ∙ ap (λ o. next_numbered o c.ends_chain-ends.result c.self.inside.tables.object) super
     ∙ ap (λ b. next_numbered (get_or c.self.inside.tables.superclasses.items c.args.t.0 None) b c.self.inside.tables.object) ends in
     subst (λ (o : Option ℕ). IsTypeNumber (types_of c.args.self.now) o (next_in_chain (types_of c.args.self.now) x)) (sym e) (next_there c.args.self.now c.self.inside.tables j c.args.t.0 x h))
@@ -38,7 +38,7 @@ returns-clause-range c =
     let m = superclasses_many c.args.self.now c.self.inside.tables j in
     let super : c.index-superclass.result.now ≡ get_or c.self.inside.tables.superclasses.items c.args.t.0 None =
     c.index-superclass.ensures ∙ get_or_default c.self.inside.tables.superclasses.items c.args.t.0 c.index-superclass.result.now None (omega (arith, c.requires)) in
-    let ends : c.ends_chain-ends.result ≡ (is_object x.0 || is_interface x.0) = c.ends_chain-ends.ensures ∙ ap (λ (g : TypeHead). g.is_object || has 0x0200 g.flags) (c.head.ensures x.0 x.1).head_is in
+    let ends : c.ends_chain-ends.result ≡ (is_object x.0 || is_interface x.0) = c.ends_chain-ends.ensures ∙ ap (λ (g : TypeHead). g.is_object || has 0x0200 g.flags) (c.head.ensures.value x.0 x.1).head_is in
     let e = c.type_id.ensures ∙ c.next_number.ensures ∙ ap (λ o. next_numbered o c.ends_chain-ends.result c.self.inside.tables.object) super
     ∙ ap (λ b. next_numbered (get_or c.self.inside.tables.superclasses.items c.args.t.0 None) b c.self.inside.tables.object) ends in
     in_range (types_of c.args.self.now) _ _ c.type_id.result (next_there c.args.self.now c.self.inside.tables j c.args.t.0 x.0 x.1) e

@@ -10,9 +10,9 @@ pub superclass_name_of_head-requires : goal.superclass_name_of_head-requires
 superclass_name_of_head-requires c =
     let x = item (types_of c.args.self.now) c.args.t.0 c.requires in
     let e = c.as_slice.ensures ∙ c.self.view_is in
-    (x.0, subst (λ (ps : List PartShown). IsHead ps (set_names ps) c.head.result x.0) (sym e) (c.head.ensures x.0 x.1))
+    (x.0, subst (λ (ps : List PartShown). IsHead ps (set_names ps) c.head.result x.0) (sym e) (c.head.ensures.value x.0 x.1))
 
 pub returns : goal.returns
 returns c = λ x h. (
     let e = c.as_slice.ensures ∙ c.self.view_is in
-    c.superclass_name_of_head.ensures x (subst (λ (ps : List PartShown). IsHead ps (set_names ps) c.head.result x) (sym e) (c.head.ensures x h)))
+    c.superclass_name_of_head.ensures x (subst (λ (ps : List PartShown). IsHead ps (set_names ps) c.head.result x) (sym e) (c.head.ensures.value x h)))

@@ -38,6 +38,6 @@ returns c = λ n h. (
         is.view,
         is.view_is,
         ap (λ (k : ℕ). slice_get is.view.methods (c.args.m.0 - k)) c.first_method.ensures
-        ∙ ap (λ (t : Placed). slice_get t.view.methods (c.args.m.0 - first_node (types_of c.args.self.now) c.owner-owner.result.0)) is.type_is ∙ r.2,
+            ∙ ap (λ (t : Placed). slice_get t.view.methods (c.args.m.0 - first_node (types_of c.args.self.now) c.owner-owner.result.0)) is.type_is ∙ r.2,
       );
     })

@@ -29,3 +29,4 @@ pub mod SearchNames
 pub mod NodeTableLaws
 pub mod MethodLaws
 pub mod MethodRows
+pub mod DeclaredLaws

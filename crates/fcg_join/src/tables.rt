@@ -6,6 +6,7 @@ ghost use Rattle.fcg_join.specs.Internal.TypeNumbers.{head_at};
 
 use crate::heads::{TypeHead, is_interface};
 use crate::known::{TypeLinks, find_known, link_types};
+use crate::methods::tell_parts;
 use crate::nodes::{NodeTables, number_nodes};
 use crate::part_names::{SetNames, number_part_names};
 use crate::type_links::find_superclasses;
@@ -57,6 +58,7 @@ pub(crate) fn make_tables(alloc: Global, parts: &[Part]) -> Result<TypeTables, A
     let superclasses = find_superclasses(alloc, heads.as_slice(), linked.by_name.as_slice())?;
     let object = find_object(heads.as_slice());
     let nodes = number_nodes(alloc, heads.as_slice())?;
+    tell_parts(parts);
     Ok(TypeTables {
         names,
         heads,

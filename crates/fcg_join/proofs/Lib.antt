@@ -35,3 +35,4 @@ pub mod SearchNames
 pub mod NodeTableLaws
 pub mod MethodLaws
 pub mod MethodRows
+pub mod DeclaredLaws

@@ -2,7 +2,7 @@
 -- its methods are their nodes. A number is a place in one of the two lists.
 use Rattle.std.specs.Prelude.{◌≡◌, ℕ, ◌+◌, List, Option, Some, None, length, option_map, position, slice_get, take}
 use Rattle.fcg_partial.specs.Parts.{PartShown}
-use Rattle.fcg_analysis.specs.Declarations.{Placed, is_type}
+use Rattle.fcg_analysis.specs.Declarations.{Placed, Signature, is_type}
 use Rattle.fcg_analysis.specs.Nodes.{Node}
 use Rattle.fcg_analysis.specs.Laws.Methods.{first_node}
 use Rattle.fcg_join.specs.declared.id.TypeId.{TypeId}
@@ -42,3 +42,6 @@ pub record IsOrigin (parts : List PartShown) (id : TypeId) (t : Placed) (o : Typ
   pub first_of_name : position (is_type t) (placed parts) ≡ Some (views_before (take o.part parts) + o.place)
   pub first : o.first ≡ first_node (types_of parts) id.0
   pub methods : o.methods ≡ length t.view.methods
+
+abbrev pub signature : List ℕ → List ℕ → Signature
+signature name desc = record { name = name; desc = desc }

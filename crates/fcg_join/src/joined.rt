@@ -1,15 +1,16 @@
 //! The known types of some parts.
-ghost use Rattle.std.specs.Prelude.{◌≡◌, ◌||◌, ◌↔◌, ◌<◌, ◌≤◌, length, option_map, IfOk, IfSome, IsTrue};
-ghost use Rattle.fcg_partial.specs.Parts.{encoded_len};
+ghost use Rattle.std.specs.Prelude.{◌≡◌, ◌||◌, ◌↔◌, ◌<◌, ◌≤◌, ◌^◌, Contains, None, Some, length, map, option_map, slice_get, IfOk, IfSome, IsTrue};
+ghost use Rattle.fcg_grammar.specs.Table.{place};
+ghost use Rattle.fcg_partial.specs.Parts.{PartShown, encoded_len};
 ghost use Rattle.fcg_partial.specs.Views.{text_of};
 ghost use Rattle.fcg_analysis.specs.NamesAndFlags.{has};
 ghost use Rattle.fcg_analysis.specs.Declarations.{Placed};
 ghost use Rattle.fcg_analysis.specs.Types.{superclass, type_named};
 ghost use Rattle.fcg_analysis.specs.Nodes.{Node};
 ghost use Rattle.fcg_analysis.specs.Laws.ChainParts.{next_in_chain};
-ghost use Rattle.fcg_analysis.specs.Laws.Methods.{first_node};
+ghost use Rattle.fcg_analysis.specs.Laws.Methods.{first_node, AreApart};
 ghost use Rattle.fcg_join.specs.Parts.{types_of, nodes_of};
-ghost use Rattle.fcg_join.specs.Internal.PartNames.{set_names};
+ghost use Rattle.fcg_join.specs.Internal.PartNames.{part_names, set_names};
 ghost use Rattle.fcg_join.specs.Internal.TypeHeads.{IsHead, IsFirstHead};
 ghost use Rattle.fcg_join.specs.Joined.{HasType, HasNode, GivesType};
 ghost use Rattle.fcg_join.specs.Internal.Tables.{next_numbered};
@@ -208,8 +209,33 @@ impl Joined {
     // The number of a type's first method.
     pub(crate) fn first_method(&self, t: TypeId) -> u32
         requires { t.0 < length (types_of self.now) }
-        ensures { result ≡ first_node (types_of self.now) t.0 }
+        ensures value { result ≡ first_node (types_of self.now) t.0 }
+        ensures few { length (nodes_of self.now) < 2 ^ 32 }
     {
         self.tables.nodes.firsts[t.0 as usize]
+    }
+
+    // The number of a name, where some part has the name.
+    pub(crate) fn name_number(&self, name: &[u8]) -> Option<u32>
+        ensures found { IfSome result (λ n. slice_get (set_names self.now) n ≡ Some name.now) }
+        ensures none { result ≡ None → Contains (set_names self.now) name.now → ⊥ }
+    {
+        let places = self.tables.names.places.as_slice();
+        find_name(self.parts.as_slice(), places, name)
+    }
+
+    // Of a part's names the numbers of the set.
+    pub(crate) fn part_numbers(&self, i: u32) -> &[u32]
+        requires { i < length self.now }
+        ensures { (p : PartShown) → slice_get self.now i ≡ Some p → result.now ≡ map (place (set_names self.now)) (part_names p) }
+    {
+        self.tables.names.numbers.row(i as usize)
+    }
+
+    /// Tells, for proofs, that the methods of each type have names and descriptors of their own. It does nothing.
+    pub fn tell_apart(&self)
+        ensures { AreApart (types_of self.now) }
+    {
+        let _tables = &self.tables;
     }
 }

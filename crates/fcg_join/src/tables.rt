@@ -7,6 +7,7 @@ ghost use Rattle.fcg_join.specs.Internal.TypeNumbers.{head_at};
 use crate::heads::{TypeHead, is_interface};
 use crate::inherited::{InheritedTables, find_inherited};
 use crate::known::{TypeLinks, find_known, link_types};
+use crate::methods::tell_parts;
 use crate::nodes::{NodeTables, number_nodes};
 use crate::part_names::{SetNames, number_part_names};
 use crate::type_links::find_superclasses;
@@ -60,6 +61,7 @@ pub(crate) fn make_tables(alloc: Global, parts: &[Part]) -> Result<TypeTables, A
     let object = find_object(heads.as_slice());
     let nodes = number_nodes(alloc, heads.as_slice())?;
     let inherited = find_inherited(alloc, parts, &names.numbers, heads.as_slice(), &linked)?;
+    tell_parts(parts);
     Ok(TypeTables {
         names,
         heads,

@@ -3,6 +3,7 @@ use Rattle.std.specs.Prelude.{◌≡◌, ℕ, ◌^◌, ◌<◌, List, All, Bool,
 use Rattle.fcg_partial.specs.Parts.{PartShown}
 use Rattle.fcg_analysis.specs.NamesAndFlags.{has}
 use Rattle.fcg_analysis.specs.Types.{object}
+use Rattle.fcg_analysis.specs.Laws.Methods.{AreApart}
 use Rattle.fcg_join.specs.declared.heads.TypeHead.{TypeHead}
 use Rattle.fcg_join.specs.declared.tables.TypeTables.{TypeTables}
 use Rattle.fcg_join.specs.Parts.{types_of, nodes_of}
@@ -31,6 +32,7 @@ pub record IsJoined (parts : List PartShown) (t : TypeTables) : Type 0 where
   pub links : HasLinks (types_of parts) t.linked.links
   pub superclasses : t.superclasses.items ≡ superclasses_of t.heads.items t.linked.by_name.items
   pub object' : IsTypeNumber (types_of parts) t.object (object (types_of parts))
+  pub apart : AreApart (types_of parts)
   pub few_nodes : length (nodes_of parts) < 2 ^ 32
   pub nodes' : AreNodeTables (types_of parts) t.nodes.firsts.items t.nodes.owners.items
   pub inherited' : AreInherited parts t.inherited

@@ -71,6 +71,7 @@ returns c =
       links = c.in_ok-linked.ensures.links (types_of parts) are d;
       superclasses = c.in_ok-superclasses.ensures ∙ ap (λ (hs : List TypeHead). superclasses_of hs c.as_slice-3.result.now) c.as_slice-2.ensures.value ∙ ap (superclasses_of heads) c.as_slice-3.ensures.value;
       object' = gives_object parts c.as_slice-4.result.now (types_of parts) are4 d c.find_object-object.result c.find_object-object.ensures.found c.find_object-object.ensures.none;
+      apart = c.tell_parts.ensures;
       few_nodes = (let m = few_methods parts in let n = count_is (types_of parts) in omega (arith, c.requires));
       inherited' = c.in_ok-inherited.ensures;
       nodes' = c.in_ok-nodes.ensures (types_of parts) (subst (λ (hs : List TypeHead). HaveMethods hs (types_of parts)) (sym c.as_slice-5.ensures.value) (have_methods parts heads (types_of parts) c.in_ok-heads.ensures.value));

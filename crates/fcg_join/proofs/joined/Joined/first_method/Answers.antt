@@ -14,8 +14,8 @@ index-requires c =
     let k = c.self.inside.tables.nodes.firsts.ok in
     omega (arith, c.requires)
 
-pub returns : goal.returns
-returns c =
+pub returns-clause-value : goal.returns-clause-value
+returns-clause-value c =
     let j = subst (λ (ps : List PartShown). IsJoined ps c.self.inside.tables) c.self.view_is c.self.invariant in
     let firsts = c.self.inside.tables.nodes.firsts.items in
     let m = ap (λ ns. length ns) j.nodes'.firsts_are ∙ first_nodes_long (types_of c.args.self.now) in

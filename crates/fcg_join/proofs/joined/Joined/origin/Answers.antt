@@ -14,6 +14,6 @@ returns c = λ x h. (
       part_is = is.part_is;
       type_is = slice_get-map (placed_view is.part) is.part.views c.head-head.result.place ∙ ap (option_map (placed_view is.part)) is.view_is ∙ ap (λ (t : Placed). Some t) is.type_is;
       first_of_name = c.head-head.ensures.first x is;
-      first = c.first_method.ensures;
+      first = c.first_method.ensures.value;
       methods = c.from.ensures ∙ ap (λ (g : TypeHead). g.methods) is.head_is;
     })

@@ -15,7 +15,7 @@ use Rattle.fcg_views.specs.Valid.{IsValid}
 use Rattle.fcg_partial.specs.Parts.{PartShown}
 use Rattle.fcg_partial.specs.Views.{names_of_method}
 use Rattle.fcg_analysis.specs.NamesAndFlags.{same}
-use Rattle.fcg_analysis.specs.Declarations.{Placed, Signature, is_type, is_named, has_signature}
+use Rattle.fcg_analysis.specs.Declarations.{Placed, is_named, has_signature}
 use Rattle.fcg_analysis.specs.Types.{winners, known, is_circular}
 use Rattle.fcg_analysis.specs.Nodes.{Node, declared}
 use Rattle.fcg_analysis.specs.Laws.Methods.{AreApart, first_node, node_at}
@@ -28,11 +28,10 @@ use Rattle.fcg_analysis.proofs.NameLaws.{find_type}
 use Rattle.fcg_join.specs.declared.heads.TypeHead.{TypeHead}
 use Rattle.fcg_join.specs.Parts.{placed_view, placed_of, placed, types_of, nodes_of}
 use Rattle.fcg_join.specs.Joined.{signature}
-use Rattle.fcg_join.specs.NodeTables.{HasNodeAt, IsNumberOf}
+use Rattle.fcg_join.specs.NodeTables.{IsNumberOf}
 use Rattle.fcg_join.specs.TypeLinks.{HasTypeAt}
 use Rattle.fcg_join.specs.Internal.MethodRows.{has_numbers, IsNumbered}
 use Rattle.fcg_join.specs.Internal.PartNames.{part_names, all_names, set_names}
-use Rattle.fcg_join.specs.Internal.PartRows.{HasView}
 use Rattle.fcg_join.specs.Internal.TypeHeads.{IsHead, heads_of}
 use Rattle.fcg_join.proofs.GraphRows.{among_item, numbered}
 use Rattle.fcg_join.proofs.HeadLaws.{all_heads, named_in_set}
@@ -87,8 +86,7 @@ module _ (parts : List PartShown) (h : TypeHead) (x : Placed) (is : IsHead parts
     own_found (Some j) r =
         let m = r.0 in
         let a = get_or numbers (place (part_names q) m.name) 0 in
-        let b = get_or numbers (place (part_names q) m.desc) 0 in
-        (
+        let b = get_or numbers (place (part_names q) m.desc) 0 in (
           m,
           subst (λ (ms : List Method). slice_get ms j ≡ Some m) methods_are r.1,
           (
@@ -127,7 +125,7 @@ module _ (parts : List PartShown) where
       let is = r.2 in
       let own : slice_get is.view.methods j ≡ Some m = subst (λ (t : Placed). slice_get t.view.methods j ≡ Some m) (sym is.type_is) s in
       let among : (n : List ℕ) → Among n (names_of_method m) → Among n N = λ n a. named_in_set parts r.0.part r.0.place is.part is.view is.part_is is.view_is n
-          (inr (among_right n (names_of_super is.view.superclass) _ (among_right n is.view.interfaces _ (among_right n _ _ (among_flat names_of_method m n is.view.methods (among_item is.view.methods j m own) a))))) in
+      (inr (among_right n (names_of_super is.view.superclass) _ (among_right n is.view.interfaces _ (among_right n _ _ (among_flat names_of_method m n is.view.methods (among_item is.view.methods j m own) a))))) in
       (among m.name (inl refl), among m.desc (inr (inl refl)))
 
   name_is : (k : ℕ) (n n' : List ℕ) → slice_get N k ≡ Some n → Among n' N → place N n' ≡ k → n ≡ n'
@@ -141,8 +139,8 @@ module _ (parts : List PartShown) where
     none_declared : ((j : ℕ) (m : Method) → slice_get x.view.methods j ≡ Some m → name ≡ m.name → desc ≡ m.desc → ⊥) → IsNumberOf (types_of parts) None (declared (types_of parts) (signature name desc) x)
     none_declared none =
         let e = (none_own (types_of parts) (known_distinct (placed parts)) x (signature name desc) (has_in (types_of parts) y x h)).1 (λ m c. false_from_ne_true (has_signature (signature name desc) m) (λ g. (
-            let k = place_of_member x.view.methods m c in
-            none k.0 m k.1 ((bytes_decides name m.name).0 (and_first (same name m.name) (same desc m.desc) g)) ((bytes_decides desc m.desc).0 (and_second (same name m.name) (same desc m.desc) g))))) in
+        let k = place_of_member x.view.methods m c in
+        none k.0 m k.1 ((bytes_decides name m.name).0 (and_first (same name m.name) (same desc m.desc) g)) ((bytes_decides desc m.desc).0 (and_second (same name m.name) (same desc m.desc) g))))) in
         subst (λ (o : Option Node). IsNumberOf (types_of parts) None o) (sym e) tt
 
     pub unnamed_declared : (Contains N name → ⊥) → IsNumberOf (types_of parts) None (declared (types_of parts) (signature name desc) x)

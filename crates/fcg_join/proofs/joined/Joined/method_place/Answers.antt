@@ -1,6 +1,5 @@
-use Rattle.std.proofs.Common.{◌≡◌, ℕ, ◌-◌, length, sym, ap, subst, ◌∙◌, arith}
-use Rattle.std.specs.Prelude.{Some, slice_get}
-use Rattle.fcg_views.specs.declared.view.View.{View}
+use Rattle.std.proofs.Common.{ℕ, ◌-◌, ap, ◌∙◌, arith}
+use Rattle.std.specs.Prelude.{slice_get}
 use Rattle.fcg_analysis.specs.Declarations.{Placed}
 use Rattle.fcg_analysis.specs.Laws.Methods.{first_node}
 use Rattle.fcg_join.specs.declared.heads.TypeHead.{TypeHead}
@@ -38,6 +37,6 @@ returns c = λ n h. (
         is.view,
         is.view_is,
         ap (λ (k : ℕ). slice_get is.view.methods (c.args.m.0 - k)) c.first_method.ensures.value
-        ∙ ap (λ (t : Placed). slice_get t.view.methods (c.args.m.0 - first_node (types_of c.args.self.now) c.owner-owner.result.0)) is.type_is ∙ r.2,
+            ∙ ap (λ (t : Placed). slice_get t.view.methods (c.args.m.0 - first_node (types_of c.args.self.now) c.owner-owner.result.0)) is.type_is ∙ r.2,
       );
     })

@@ -1,9 +1,7 @@
-use Rattle.std.proofs.Common.{◌≡◌, ℕ, ◌<◌, List, length, get_or, sym, ap, subst, ◌∙◌}
-use Rattle.std.specs.Prelude.{Some, None, slice_get}
+use Rattle.std.proofs.Common.{ℕ, ◌<◌, List, length, sym, ap, subst, ◌∙◌}
 use Rattle.std.proofs.lemmas.List.{length-map}
-use Rattle.std.proofs.lemmas.Option.{get_or_from_slice_get, slice_get_within}
+use Rattle.std.proofs.lemmas.Option.{slice_get_within}
 use Rattle.fcg_grammar.specs.Table.{place}
-use Rattle.fcg_views.specs.declared.view.View.{View}
 use Rattle.fcg_partial.specs.Parts.{PartShown}
 use Rattle.fcg_analysis.specs.Declarations.{Placed}
 use Rattle.fcg_join.specs.declared.heads.TypeHead.{TypeHead}
@@ -30,8 +28,7 @@ pub find_method-requires-clause-there : goal.find_method-requires-clause-there
 find_method-requires-clause-there c =
     let x = item (types_of c.args.self.now) c.args.t.0 c.requires in
     let is = c.head-head.ensures.value x.0 x.1 in
-    let e = part_there c.args.self.now c.as_slice.result.now (c.as_slice.ensures ∙ c.parts.ensures) c.head-head.result.part is.part is.part_is c.index-as_slice-head.result c.index-as_slice-head.is in
-    (
+    let e = part_there c.args.self.now c.as_slice.result.now (c.as_slice.ensures ∙ c.parts.ensures) c.head-head.result.part is.part is.part_is c.index-as_slice-head.result c.index-as_slice-head.is in (
       is.view,
       subst (λ (p : PartShown). HasView p c.head-head.result.place is.view) (sym e) is.view_is,
       ap (λ (g : TypeHead). g.methods) is.head_is ∙ ap (λ (t : Placed). length t.view.methods) (sym is.type_is),

@@ -15,7 +15,7 @@ use Rattle.fcg_views.specs.Valid.{IsValid}
 use Rattle.fcg_partial.specs.Parts.{PartShown}
 use Rattle.fcg_partial.specs.Views.{names_of_method}
 use Rattle.fcg_analysis.specs.NamesAndFlags.{same}
-use Rattle.fcg_analysis.specs.Declarations.{Placed, Signature, is_type, is_named, has_signature}
+use Rattle.fcg_analysis.specs.Declarations.{Placed, is_named, has_signature}
 use Rattle.fcg_analysis.specs.Types.{winners, known, is_circular}
 use Rattle.fcg_analysis.specs.Nodes.{Node, declared}
 use Rattle.fcg_analysis.specs.Laws.Methods.{AreApart, first_node, node_at}
@@ -28,11 +28,10 @@ use Rattle.fcg_analysis.proofs.NameLaws.{find_type}
 use Rattle.fcg_join.specs.declared.heads.TypeHead.{TypeHead}
 use Rattle.fcg_join.specs.Parts.{placed_view, placed_of, placed, types_of, nodes_of}
 use Rattle.fcg_join.specs.Joined.{signature}
-use Rattle.fcg_join.specs.NodeTables.{HasNodeAt, IsNumberOf}
+use Rattle.fcg_join.specs.NodeTables.{IsNumberOf}
 use Rattle.fcg_join.specs.TypeLinks.{HasTypeAt}
 use Rattle.fcg_join.specs.Internal.MethodRows.{has_numbers, IsNumbered}
 use Rattle.fcg_join.specs.Internal.PartNames.{part_names, all_names, set_names}
-use Rattle.fcg_join.specs.Internal.PartRows.{HasView}
 use Rattle.fcg_join.specs.Internal.TypeHeads.{IsHead, heads_of}
 use Rattle.fcg_join.proofs.GraphRows.{among_item, numbered}
 use Rattle.fcg_join.proofs.HeadLaws.{all_heads, named_in_set}

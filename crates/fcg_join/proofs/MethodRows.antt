@@ -6,14 +6,13 @@ use Rattle.std.proofs.lemmas.Option.{get_or_from_slice_get, slice_get-map, slice
 use Rattle.fcg_grammar.proofs.Among.{Among, among_right, among_flat}
 use Rattle.fcg_views.specs.declared.view.View.{View}
 use Rattle.fcg_views.specs.declared.view.Method.{Method}
-use Rattle.fcg_views.specs.NamesIn.{names_of_super, names_of_field}
+use Rattle.fcg_views.specs.NamesIn.{names_of_super}
 use Rattle.fcg_partial.specs.Graph.{StoredType, StoredMethod}
 use Rattle.fcg_partial.specs.Views.{graph_of, refs_of, type_row, method_row, site_row, names_of_method}
 use Rattle.fcg_partial.specs.Accessors.{HasMethod, row_of_method, type_in, no_type}
 use Rattle.fcg_partial.specs.declared.row.MethodRow.{MethodRow}
 use Rattle.fcg_partial.specs.Parts.{PartShown}
 use Rattle.fcg_join.specs.Internal.PartNames.{part_names}
-use Rattle.fcg_join.specs.Internal.PartRows.{HasView}
 use Rattle.fcg_join.specs.declared.methods.MethodPlace.{MethodPlace}
 use Rattle.fcg_join.specs.Internal.MethodRows.{HasOwnMethod, row_of_own, IsMethodPlace}
 use Rattle.fcg_join.proofs.GraphRows.{among_item, type_there, named, name_back}

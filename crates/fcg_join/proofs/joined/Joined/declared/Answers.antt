@@ -1,9 +1,9 @@
-use Rattle.std.proofs.Common.{◌≡◌, ℕ, ◌+◌, length, sym, ap, subst, ◌∙◌, arith, refl}
-use Rattle.std.specs.Prelude.{Option, Some, None, slice_get}
+use Rattle.std.proofs.Common.{◌≡◌, ℕ, ◌+◌, sym, subst, arith}
+use Rattle.std.specs.Prelude.{Option, Some}
 use Rattle.fcg_analysis.specs.Laws.Methods.{first_node}
 use Rattle.fcg_analysis.specs.Nodes.{declared}
 use Rattle.fcg_join.specs.declared.id.MethodId.{MethodId}
-use Rattle.fcg_join.specs.Parts.{types_of, nodes_of}
+use Rattle.fcg_join.specs.Parts.{types_of}
 use Rattle.fcg_join.specs.Joined.{GivesNode, signature}
 use Rattle.fcg_join.specs.NodeTables.{IsNumberOf}
 use Rattle.fcg_join.proofs.GraphRows.{item}

@@ -1,6 +1,5 @@
-use Rattle.std.proofs.Common.{◌≡◌, ℕ, ◌-◌, length, sym, ap, subst, ◌∙◌, arith}
-use Rattle.std.specs.Prelude.{Some, slice_get}
-use Rattle.fcg_views.specs.declared.view.View.{View}
+use Rattle.std.proofs.Common.{ℕ, ◌-◌, ap, ◌∙◌, arith}
+use Rattle.std.specs.Prelude.{slice_get}
 use Rattle.fcg_analysis.specs.Declarations.{Placed}
 use Rattle.fcg_analysis.specs.Laws.Methods.{first_node}
 use Rattle.fcg_join.specs.declared.heads.TypeHead.{TypeHead}

@@ -1,10 +1,8 @@
-use Rattle.std.proofs.Common.{◌≡◌, ℕ, List, length, sym, ap, subst, ◌∙◌, arith}
-use Rattle.std.specs.Prelude.{Contains, IfSome, Some, map, slice_get}
-use Rattle.std.proofs.lemmas.List.{length-map}
+use Rattle.std.proofs.Common.{List, sym, subst, ◌∙◌}
 use Rattle.fcg_grammar.specs.Table.{Rises}
 use Rattle.fcg_grammar.proofs.TableLaws.{table_rises}
 use Rattle.fcg_partial.specs.Parts.{PartShown}
-use Rattle.fcg_join.specs.Internal.PartNames.{all_names, set_names, name_there}
+use Rattle.fcg_join.specs.Internal.PartNames.{all_names, set_names}
 use Rattle.fcg_join.specs.Internal.Tables.{IsJoined}
 use Rattle.fcg_join.proofs.TableAnswers.{names_here}
 use Rattle.fcg_join.proofs.joined.Joined.name_number.Goals as goal

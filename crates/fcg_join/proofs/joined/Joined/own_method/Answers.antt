@@ -1,9 +1,7 @@
-use Rattle.std.proofs.Common.{◌≡◌, ℕ, ◌<◌, List, length, get_or, sym, ap, subst, ◌∙◌}
-use Rattle.std.specs.Prelude.{Some, None, slice_get}
+use Rattle.std.proofs.Common.{ℕ, ◌<◌, List, length, sym, ap, subst, ◌∙◌}
 use Rattle.std.proofs.lemmas.List.{length-map}
-use Rattle.std.proofs.lemmas.Option.{get_or_from_slice_get, slice_get_within}
+use Rattle.std.proofs.lemmas.Option.{slice_get_within}
 use Rattle.fcg_grammar.specs.Table.{place}
-use Rattle.fcg_views.specs.declared.view.View.{View}
 use Rattle.fcg_partial.specs.Parts.{PartShown}
 use Rattle.fcg_analysis.specs.Declarations.{Placed}
 use Rattle.fcg_join.specs.declared.heads.TypeHead.{TypeHead}

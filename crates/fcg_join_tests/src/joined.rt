@@ -1,5 +1,5 @@
 use fcg_cases::views_of;
-use fcg_join::{Joined, MethodId, TypeId};
+use fcg_join::{Joined, MethodId, TypeId, TypeOrigin};
 use fcg_partial::{Part, PartialGraph, Parts};
 use fcg_views::{Coordinate, View, Views, is_valid};
 use std::alloc::Global;
@@ -218,5 +218,87 @@ fn tells_types(rt: HostRuntime) -> Result<(), Fail> {
         && flags_of(&joined, "p/Z") == Some(0x0601);
     let owners = is_owned(&joined, 0, 0) && is_owned(&joined, 1, 1) && is_owned(&joined, 3, 2);
     assert!(rt; names && flags && owners && joined.parts().as_slice().len() == 2);
+    Ok(())
+}
+
+// Whether the method of a number has this name and this descriptor.
+fn is_method(joined: &Joined, number: u32, name: &str, desc: &str) -> bool {
+    number < joined.method_count()
+        && joined.method_name(MethodId(number)) == name.as_bytes()
+        && joined.method_desc(MethodId(number)) == desc.as_bytes()
+}
+
+// Whether the type of a number has this origin.
+fn is_from(joined: &Joined, number: u32, origin: &TypeOrigin) -> bool {
+    number < joined.type_count() && joined.origin(TypeId(number)) == *origin
+}
+
+// The number of the method that the type of a name declares.
+fn declared_in(joined: &Joined, class: &str, name: &str, desc: &str) -> Option<u32> {
+    let t = joined.find(class.as_bytes())?;
+    joined
+        .declared(t, name.as_bytes(), desc.as_bytes())
+        .map(|m| m.0)
+}
+
+// Of each type that comes from a part: its number, the part, the place in it, its first method and how many it has.
+const ORIGINS: &[(u32, TypeOrigin)] = &[
+    (
+        0,
+        TypeOrigin {
+            part: 0,
+            place: 0,
+            first: 0,
+            methods: 1,
+        },
+    ),
+    (
+        1,
+        TypeOrigin {
+            part: 0,
+            place: 1,
+            first: 1,
+            methods: 1,
+        },
+    ),
+    (
+        2,
+        TypeOrigin {
+            part: 1,
+            place: 1,
+            first: 2,
+            methods: 2,
+        },
+    ),
+];
+
+// A type, the name and the descriptor of a method, and the number of the method that the type declares.
+const DECLARED: &[(&str, &str, &str, Option<u32>)] = &[
+    ("p/Y", "f", "()V", Some(0)),
+    ("p/Y", "g", "()V", None),
+    ("p/Z", "g", "()V", Some(1)),
+    ("p/X", "g", "(I)V", Some(3)),
+    ("p/X", "g", "()V", None),
+    ("p/X", "absent", "()V", None),
+];
+
+#[test]
+fn tells_methods(rt: HostRuntime) -> Result<(), Fail> {
+    let joined = join(
+        rt.alloc(),
+        &[
+            (
+                "g:b:1",
+                "class p/Y extends p/X pub f()V interface p/Z abs g()V",
+            ),
+            ("g:a:1", "class p/Y pub h()V class p/X pub f()V pub g(I)V"),
+        ],
+    )?;
+    let origins = ORIGINS.iter().all(|row| is_from(&joined, row.0, &row.1));
+    let declared = DECLARED
+        .iter()
+        .all(|row| declared_in(&joined, row.0, row.1, row.2) == row.3);
+    let names = is_method(&joined, 1, "g", "()V") && is_method(&joined, 3, "g", "(I)V");
+    assert!(rt; origins && declared && names);
     Ok(())
 }

@@ -10,7 +10,7 @@ use Rattle.fcg_grammar.specs.Table.{place}
 use Rattle.fcg_grammar.proofs.Among.{Among, among_at}
 use Rattle.fcg_grammar.proofs.TableLaws.{at_place}
 use Rattle.fcg_partial.specs.Parts.{PartShown}
-use Rattle.fcg_partial.specs.Views.{names_of_super}
+use Rattle.fcg_views.specs.NamesIn.{names_of_super}
 use Rattle.fcg_analysis.specs.NamesAndFlags.{same, contains}
 use Rattle.fcg_analysis.specs.Declarations.{Placed, is_type, is_named, is_class, is_interface, is_object, superclass_names, interface_names}
 use Rattle.fcg_analysis.specs.Types.{type_named, uses_unlinked_name}

@@ -56,8 +56,7 @@ fn read_names(
     ensures texts { IfOk result (λ x. AllByRecursion (HasText bytes.now) x.0.items) }
     ensures follow { IfOk result (λ x. Follow bytes.now at x.0.items x.1) }
 {
-    let mut places = Vec::new(alloc);
-    places.reserve((count as usize).min(bytes.len() / 6))?;
+    let mut places = Vec::with_capacity(alloc, (count as usize).min(bytes.len() / 6))?;
     let mut place = at;
     let mut last: Option<&[u8]> = None;
     for _ in 0..count {

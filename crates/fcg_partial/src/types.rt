@@ -1,7 +1,7 @@
 //! The types of a stored graph, with the places of their rows.
-ghost use Rattle.std.specs.Prelude.{◌≡◌, ◌≤◌, ◌<◌, ◌^◌, ◌+◌, ℕ, length, IfOk};
+ghost use Rattle.std.specs.Prelude.{◌≡◌, ◌≤◌, ◌<◌, ◌^◌, ◌+◌, ℕ, [], ◌∷◌, ◌++◌, length, IfOk, OnOk};
 ghost use Rattle.fcg_partial.specs.Reading.{type_at};
-ghost use Rattle.fcg_partial.specs.Internal.UsedNumbers.{used_marks, PassesType, PassesTypes, types_read};
+ghost use Rattle.fcg_partial.specs.Internal.UsedNumbers.{used_marks, HavePlaces, PassesType, PassesTypes, types_read};
 
 use crate::fault::RecordFault;
 use crate::marks::read_index;
@@ -9,7 +9,7 @@ use crate::methods::read_methods;
 use crate::number::{read_u2, read_u4};
 use crate::rows::{read_fields, read_interfaces, read_super};
 use fcg_grammar::ReadError;
-use std::alloc::Global;
+use std::alloc::{AllocError, Global};
 
 // The places of types and of their methods.
 #[derive(Drop)]
@@ -49,6 +49,28 @@ fn read_type(
     read_methods(alloc, bytes, most, after_fields + 2, names, refs, methods)
 }
 
+// No places yet, with room for so many types.
+fn make_places(alloc: Global, room: usize) -> Result<Places, AllocError>
+    ensures { IfOk result (λ p. HavePlaces p [] [] []) }
+{
+    let types = Vec::with_capacity(alloc, room)?;
+    let firsts = Vec::with_capacity(alloc, room)?;
+    Ok(Places {
+        types,
+        firsts,
+        methods: Vec::new(alloc),
+    })
+}
+
+// Adds the place of a type, and the number of its first method.
+fn push_type(places: &mut Places, place: u32, first: u32) -> Result<(), AllocError>
+    ensures { OnOk result (HavePlaces places.new (places.old.types.items ++ place ∷ []) (places.old.firsts.items ++ first ∷ []) places.old.methods.items) }
+{
+    places.types.push(place)?;
+    places.firsts.push(first)?;
+    Ok(())
+}
+
 // So many types, and the place after them. A type takes 22 bytes or more: its row, and its name.
 pub(crate) fn read_types(
     alloc: Global,
@@ -63,24 +85,13 @@ pub(crate) fn read_types(
     ensures value { PassesTypes bytes.now (length names.old) (length refs.old) (types_read bytes.now (length names.old) (length refs.old) count at) (used_marks names.old refs.old) (used_marks names.new refs.new) result }
     ensures inside { IfOk result (λ x. x.1 ≤ length bytes.now) }
 {
-    let room = (count as usize).min(bytes.len() / 22);
-    let mut types = Vec::new(alloc);
-    types.reserve(room)?;
-    let mut firsts = Vec::new(alloc);
-    firsts.reserve(room)?;
-    let mut methods = Vec::new(alloc);
+    let mut places = make_places(alloc, (count as usize).min(bytes.len() / 22))?;
     let mut place = at;
     for _ in 0..count {
-        let first = methods.len();
-        let after = read_type(alloc, bytes, place, names, refs, &mut methods)?;
-        types.push(place as u32)?;
-        firsts.push(first as u32)?;
+        let first = places.methods.len();
+        let after = read_type(alloc, bytes, place, names, refs, &mut places.methods)?;
+        push_type(&mut places, place as u32, first as u32)?;
         place = after;
     }
-    let places = Places {
-        types,
-        firsts,
-        methods,
-    };
     Ok((places, place))
 }

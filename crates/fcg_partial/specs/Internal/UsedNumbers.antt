@@ -182,6 +182,12 @@ pub record ArePlaces (bytes : List ℕ) (n r : ℕ) (places firsts methods : Lis
 abbrev pub types_read : List ℕ → ℕ → ℕ → ℕ → ℕ → Result (List StoredType × ℕ) RecordFault
 types_read bytes names refs count at = rows (type_at bytes names refs) count 0 at
 
+-- the tables of the places are these
+pub record HavePlaces (places : Places) (types firsts methods : List ℕ) : Type 0 where
+  pub types_are : places.types.items ≡ types
+  pub firsts_are : places.firsts.items ≡ firsts
+  pub methods_are : places.methods.items ≡ methods
+
 -- types were read, with their marks and their places
 pub record NextTypes (bytes : List ℕ) (n r : ℕ) (read : Result (List StoredType × ℕ) RecordFault) (old new : UsedMarks) (after : ℕ) (places : Places) : Type 0 where
   pub types : List StoredType

@@ -11,7 +11,7 @@ use Rattle.fcg_partial.proofs.types.read_types.Goals as goal
 pub loop-init : goal.loop-init
 unfolding both_begin
 loop-init c =
-    rw (c.in_ok-reserve.ensures.items, c.new-types.ensures.items, c.in_ok-reserve-2.ensures.items, c.new-firsts.ensures.items, c.new-methods.ensures.items) (record {
+    rw (c.in_ok-places.ensures.types_are, c.in_ok-places.ensures.firsts_are, c.in_ok-places.ensures.methods_are) (record {
       rows = both_begin type_uses type_targets (type_at c.args.bytes.now (length c.args.names.now) (length c.args.refs.now)) at_place c.args.count c.args.at (used_marks c.args.names.now c.args.refs.now);
       firsts_are = refl;
       methods_are = tt;
@@ -35,12 +35,12 @@ loop-preserved c =
     let read = type_at c.args.bytes.now n r in
     let i = c.loop.invariant in
     let given = rw (both_names type_uses type_targets read at_place i.rows, both_refs type_uses type_targets read at_place i.rows) at (c.in_ok-after.ensures.value c.loop.counter) in
-    let long : c.len-first.result ≡ length c.loop.methods.items = search rules in
-    let first = long ∙ zip_length (ReadAt (method_at c.args.bytes.now n r) at_state) c.loop.methods.items (methods_of i.rows.front) i.methods_are in
-    rw (c.in_ok-push.ensures.items, c.in_ok-push-2.ensures.items) (record {
-      rows = both_more type_uses type_targets read at_place c.args.count c.args.at (used_marks c.args.names.now c.args.refs.now) c.loop.counter c.loop.place (used_marks c.loop.names c.loop.refs) c.loop.types.items given.type c.in_ok-after.after (used_marks c.read_type.new.names c.read_type.new.refs) c.loop-test.true given.read_is given.names given.refs i.rows;
-      firsts_are = firsts_push i.rows.front given.type c.loop.firsts.items c.len-first.result i.firsts_are first;
-      methods_are = rw (given.places_are, methods_push i.rows.front given.type) (zip_append (ReadAt (method_at c.args.bytes.now n r) at_state) c.loop.methods.items (methods_of i.rows.front) given.places given.type.methods i.methods_are given.places_read);
+    let long : c.len-first.result ≡ length c.loop.places.methods.items = search rules in
+    let first = long ∙ zip_length (ReadAt (method_at c.args.bytes.now n r) at_state) c.loop.places.methods.items (methods_of i.rows.front) i.methods_are in
+    rw (c.in_ok-push_type.ensures.types_are, c.in_ok-push_type.ensures.firsts_are, c.in_ok-push_type.ensures.methods_are) (record {
+      rows = both_more type_uses type_targets read at_place c.args.count c.args.at (used_marks c.args.names.now c.args.refs.now) c.loop.counter c.loop.place (used_marks c.loop.names c.loop.refs) c.loop.places.types.items given.type c.in_ok-after.after (used_marks c.read_type.new.names c.read_type.new.refs) c.loop-test.true given.read_is given.names given.refs i.rows;
+      firsts_are = firsts_push i.rows.front given.type c.loop.places.firsts.items c.len-first.result i.firsts_are first;
+      methods_are = rw (given.places_are, methods_push i.rows.front given.type) (zip_append (ReadAt (method_at c.args.bytes.now n r) at_state) c.loop.places.methods.items (methods_of i.rows.front) given.places given.type.methods i.methods_are given.places_read);
       many = (let a = i.many in let b = c.in_ok-after.ensures.few in omega arith);
       inside = c.in_ok-after.ensures.inside.1;
     })

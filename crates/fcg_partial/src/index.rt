@@ -86,29 +86,24 @@ fn find_types(
     Ok(places)
 }
 
-// The places of the rows, where the names were read, or the first fault.
+// The places of the types, where the names were read, or the first fault.
 fn find_refs(
     alloc: Global,
     bytes: &[u8],
-    names: Vec<u32>,
+    names: &[u32],
     at: usize,
     used: &mut [bool],
-) -> Result<Index, ReadError<RecordFault>>
+) -> Result<Places, ReadError<RecordFault>>
     requires small { length bytes.now < 2 ^ 32 }
-    requires names { HasNames bytes.now names.items at }
-    requires no_marks { used.old ≡ no_marks bytes.now names.items }
+    requires names { HasNames bytes.now names.now at }
+    requires no_marks { used.old ≡ no_marks bytes.now names.now }
     requires inside { at ≤ length bytes.now }
-    ensures { GivesIndex bytes.now result }
+    ensures { GivesPlaces bytes.now names.now at result }
 {
     let count = read_u4(bytes, at)?;
     let after = read_refs(bytes, count, at + 4, used)?;
     let mut used_refs = make_marks(alloc, count as usize)?;
-    let places = find_types(alloc, bytes, &names, at, after, used, &mut used_refs)?;
-    Ok(Index {
-        names,
-        refs: at,
-        places,
-    })
+    find_types(alloc, bytes, names, at, after, used, &mut used_refs)
 }
 
 // The places of the rows of a stored graph, or its first fault. Makes one pass over the bytes, and takes a logarithm of
@@ -126,5 +121,10 @@ pub(crate) fn find_rows(alloc: Global, bytes: &[u8]) -> Result<Index, ReadError<
     }
     let (names, refs) = read_name_table(alloc, bytes, 6)?;
     let mut used = make_marks(alloc, names.len())?;
-    find_refs(alloc, bytes, names, refs, &mut used)
+    let places = find_refs(alloc, bytes, &names, refs, &mut used)?;
+    Ok(Index {
+        names,
+        refs,
+        places,
+    })
 }

@@ -4,6 +4,8 @@
 #[cfg(test)]
 mod below;
 #[cfg(test)]
+mod chains;
+#[cfg(test)]
 mod joined;
 #[cfg(test)]
 mod numbers;

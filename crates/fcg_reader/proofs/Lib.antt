@@ -8,5 +8,6 @@ pub mod ClassLemmas
 pub mod ViewLemmas
 pub mod OverLemmas
 pub mod SiteLemmas
+pub mod MemberLemmas
 pub mod HandleLemmas
 pub mod NamingLemmas

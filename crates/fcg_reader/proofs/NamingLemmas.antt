@@ -1,14 +1,13 @@
 -- NamesMore that are made of texts, one after the other.
-use Rattle.std.proofs.Common.{◌≡◌, ◌⊎◌, inl, inr, ℕ, suc, ◌<◌, List, [], ◌∷◌, ◌++◌, length, map, get_or, Option, Some, None, refl, sym, subst, ◌∙◌, arith}
+use Rattle.std.proofs.Common.{◌≡◌, ◌⊎◌, inl, inr, ℕ, suc, ◌<◌, List, [], ◌∷◌, ◌++◌, length, map, get_or, ◌+◌, refl, sym, subst, ◌∙◌, arith}
 use Rattle.std.specs.List.{All}
 use Rattle.std.proofs.lemmas.List.{append-nil, length_push, get_or_push, get_or_append_left}
 use Rattle.std.proofs.lemmas.List.Elements.{All-push}
 use Rattle.fcg_views.specs.NamesIn.{TextNumbers, names_by}
 use Rattle.fcg_views.specs.NamesIn as numbered
 use Rattle.fcg_classfile.specs.Breaks.Pool.{Entries}
-use Rattle.fcg_reader.specs.Internal.Kept.{IsKept}
 use Rattle.fcg_reader.specs.Internal.Rows.{text_in}
-use Rattle.fcg_reader.specs.Internal.Naming.{Named, IsNumberOf, NamesMore, IsNamed}
+use Rattle.fcg_reader.specs.Internal.Naming.{Named, IsNumberOf, NumberKept, NamesMore, IsNamed}
 
 -- ---- a text more
 
@@ -29,7 +28,7 @@ module _ (pool : Entries) (list now : TextNumbers) (text : List ℕ) (added : no
   abbrev after : Named
   after = record { pool = pool; list = now }
 
-  pub names_kept : (old new : List (Option ℕ)) → IsNamed before old → NamesMore before after []
+  pub names_kept : (old new : List ℕ) → IsNamed before old → NamesMore before after []
   names_kept old new was = record { pool = refl; names = rw added (same_texts list.texts text list.numbers was.below) ∙ sym (append-nil (names_by list)) }
 
   -- a number is that of the same text
@@ -47,20 +46,20 @@ module _ (pool : Entries) (list now : TextNumbers) (text : List ℕ) (added : no
   all_below : All (λ n. n < length list.texts) list.numbers → All (λ n. n < length now.texts) now.numbers
   all_below below = rw added (λ k d lt. (let here = below k d lt in let more = length_push list.texts text in omega (arith, here, more)))
 
-  pub named_added : (index number : ℕ) (old new : List (Option ℕ)) → number ≡ length list.texts → text ≡ text_in pool index → IsKept index number old new → IsNamed before old → IsNamed after new
+  pub named_added : (index number : ℕ) (old new : List ℕ) → number ≡ length list.texts → text ≡ text_in pool index → NumberKept index number old new → IsNamed before old → IsNamed after new
   named_added index number old new last is kept was = record {
     block = rw added was.block;
     below = all_below was.below;
     kept = λ i n found. by i n (kept i n found);
   }
     where
-      by : (i n : ℕ) → (get_or old i None ≡ Some n) ⊎ ((i ≡ index) × (n ≡ number)) → IsNumberOf after i n
+      by : (i n : ℕ) → (get_or old i 0 ≡ n + 1) ⊎ ((i ≡ index) × (n ≡ number)) → IsNumberOf after i n
       by i n (inl known) = number_kept i n (was.kept i n known)
       by i n (inr one) = subst (λ (m : ℕ). IsNumberOf after i m) (sym one.1) (subst (λ (j : ℕ). IsNumberOf after j number) (sym one.0) (number_added index number last is))
 
 -- ---- a name more
 
-pub named_push : (pool : Entries) (list now : TextNumbers) (number : ℕ) (numbers : List (Option ℕ)) → now ≡ record { block = list.block; texts = list.texts; numbers = list.numbers ++ number ∷ [] } → number < length list.texts
+pub named_push : (pool : Entries) (list now : TextNumbers) (number : ℕ) (numbers : List ℕ) → now ≡ record { block = list.block; texts = list.texts; numbers = list.numbers ++ number ∷ [] } → number < length list.texts
     → IsNamed (record { pool = pool; list = list }) numbers → IsNamed (record { pool = pool; list = now }) numbers
 named_push pool list now number numbers pushed lt was = rw pushed (record {
   block = was.block;

@@ -292,8 +292,8 @@ fn read_whole(alloc: Global, bytes: &[u8]) -> Result<Option<NumberedView>, ReadE
 ///
 /// It makes one pass over the bytes, and for each method some comparisons more, about the logarithm of the number of
 /// methods. Each name takes constant time, however long it is. It takes memory for the pool's entries, for the bootstrap
-/// methods and the calls of them, for 12 bytes of each site, and for the view, whose names share one copy of the bytes and
-/// have a number of two bytes each.
+/// methods and the calls of them, for the sites some bytes for each byte of code, and for the view, whose names share one
+/// copy of the bytes and have a number of two bytes each.
 pub fn read_numbered(
     alloc: Global,
     bytes: &[u8],

@@ -115,7 +115,7 @@ fn read_found(
     ensures placed { IfOk result (λ x. ArePlaced code.entry.begin x.1.items) }
     ensures same { names.new ≡ names.old }
 {
-    // most codes have fewer, and what isn't used is given back
+    // most codes have fewer
     let mut sites = Vec::with_capacity(alloc, code.bytes.len() / 8)?;
     let mut calls = Vec::new(alloc);
     let mut pc = 0;
@@ -138,7 +138,6 @@ fn read_found(
             pc = instruction.next as usize;
         }
     }
-    sites.shrink_to_fit();
     Ok((sites, calls))
 }
 
@@ -151,8 +150,8 @@ fn read_found(
 /// opcode in the file; the name of an attribute of the code is no text; bytes stand after the last attribute.
 ///
 /// Makes one pass over the code, and passes over the exception table by its rows and over the attributes by their
-/// lengths. It takes memory for the sites and the calls; that of the sites is at first for one for each eight bytes of
-/// the code, and what isn't used is given back.
+/// lengths. It takes memory for the sites and the calls; that of the sites is for one of 12 bytes for each eight bytes of
+/// the code, or for twice as many as there are where these are more.
 #[tactic(auto, unfolding(fcg_classfile::specs::Breaks::Code::code_at), using(crate::proofs::SiteLemmas::found_over))]
 pub fn read_code(
     alloc: Global,

@@ -84,15 +84,16 @@ impl<'a> FirstTexts<'a> {
     }
 }
 
-// So many Utf8s that weren't added.
-fn unasked(alloc: Global, count: usize) -> Result<Vec<u16>, AllocError>
+/// So many Utf8s that weren't added.
+pub fn unasked(alloc: Global, count: usize) -> Result<Vec<u16>, AllocError>
     ensures { IfOk result (λ firsts. AllUnasked firsts.items) }
 {
     Ok(vec![in alloc; 0; count]?)
 }
 
-// The number at an index, or 0.
-fn first_of(firsts: &[u16], index: u16) -> u16
+/// The number at an index, or 0.
+#[inline(always)]
+pub fn first_of(firsts: &[u16], index: u16) -> u16
     ensures { result ≡ slice_index_or firsts.now index 0 }
 {
     match firsts.get(usize::from(index)) {

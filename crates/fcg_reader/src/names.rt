@@ -1,8 +1,10 @@
-//! The texts of a class file, of which a descriptor is read once.
-ghost use Rattle.std.specs.Prelude.{◌≡◌, Ok, IfOk};
+//! The texts of a class file, of which a descriptor is read once, and its references, of which a method is found once.
+ghost use Rattle.std.specs.Prelude.{◌≡◌, ℕ, None, Ok, IfOk, IfSome, slice_index_or};
 ghost use Rattle.fcg_classfile.specs.Breaks.Pool.{text_of};
-ghost use Rattle.fcg_reader.specs.Internal.Names.{AllUntyped, is_of_kind, descs};
+ghost use Rattle.fcg_reader.specs.Internal.Names.{AllUntyped, IsMethodAt, is_of_kind, descs};
 
+use crate::kept::{find_kept, keep};
+use crate::rows::RefRow;
 use fcg_pool::{Pool, Text};
 use fcg_views::{read_descriptor, read_field_descriptor};
 use std::alloc::{AllocError, Global};
@@ -17,13 +19,15 @@ pub enum DescKind {
     Method,
 }
 
-/// The constant pool of a class file, with what was found of its texts: which are field descriptors and which are method
-/// descriptors.
+/// The constant pool of a class file, with what was found of it: which texts are field descriptors and which are method
+/// descriptors, and the methods that references name.
 #[derive(Drop)]
 pub struct ClassNames<'a> {
     pool: &'a Pool<'a>,
     fields: FoundDescs<'a>,
     methods: FoundDescs<'a>,
+    // by the index of a reference the method that it names, where it was found
+    found: Vec<Option<RefRow>>,
 }
 
 impl<'a> Model for ClassNames<'a> {
@@ -34,20 +38,22 @@ impl<'a> Model for ClassNames<'a> {
 
     ghost view = { λ n. n.pool.now };
 
-    ghost invariant = { λ n. IsKnown n.pool.now n.fields n.methods };
+    ghost invariant = { λ n. IsKnown n.pool.now n.fields n.methods n.found.items };
 }
 
 impl<'a> ClassNames<'a> {
-    /// No descriptor is read yet. It takes memory for each index of the pool.
+    /// No descriptor is read and no method is found yet. It takes memory for each index of the pool.
     pub fn new(alloc: Global, pool: &'a Pool<'a>) -> Result<ClassNames<'a>, AllocError>
         ensures { IfOk result (λ names. names ≡ pool.now) }
     {
         let fields = FoundDescs::new(alloc, pool, DescKind::Field)?;
         let methods = FoundDescs::new(alloc, pool, DescKind::Method)?;
+        let found = none_found(alloc, pool.len() + 1)?;
         Ok(ClassNames {
             pool,
             fields,
             methods,
+            found,
         })
     }
 
@@ -69,6 +75,23 @@ impl<'a> ClassNames<'a> {
             DescKind::Field => self.fields.has(text),
             DescKind::Method => self.methods.has(text),
         }
+    }
+
+    /// The method that a reference was found to name.
+    #[inline(always)]
+    pub fn found_method(&self, index: u16) -> Option<&RefRow>
+        ensures { IfSome result (λ row. IsMethodAt self.now index row.now) }
+    {
+        find_kept(&self.found, index)
+    }
+
+    /// Keeps the method that a reference names.
+    #[inline(always)]
+    pub fn keep_method(&mut self, index: u16, method: RefRow)
+        requires { IsMethodAt self.old index method }
+        ensures same { self.new ≡ self.old }
+    {
+        keep(&mut self.found, index, method);
     }
 }
 
@@ -133,4 +156,11 @@ fn untyped(alloc: Global, count: usize) -> Result<Vec<bool>, AllocError>
     ensures { IfOk result (λ typed. AllUntyped typed.items) }
 {
     Ok(vec![in alloc; false; count]?)
+}
+
+// So many references, whose methods weren't found.
+fn none_found(alloc: Global, count: usize) -> Result<Vec<Option<RefRow>>, AllocError>
+    ensures { IfOk result (λ found. (i : ℕ) → slice_index_or found.items i None ≡ None) }
+{
+    Ok(vec![in alloc; None; count]?)
 }

@@ -6,9 +6,9 @@ ghost use Rattle.std.specs.Option.{option_map};
 ghost use Rattle.fcg_grammar.specs.Number.{part};
 ghost use Rattle.fcg_views.specs.NamesIn.{names_in, names_of_ref, names_of_site, names_of_super, names_of_field, names_of_method};
 ghost use Rattle.fcg_reader.specs.Internal.Rows.{text_in, ref_in, site_in, sites_in, field_in, method_in, view_in};
-ghost use Rattle.fcg_reader.specs.Internal.Naming.{IsNumberOf, NamesMore};
+ghost use Rattle.fcg_reader.specs.Internal.Naming.{IsNumberOf, NumberKept, NamesMore};
 
-use crate::kept::{find_kept, keep, nothing_kept};
+use crate::firsts::{first_of, unasked};
 use crate::rows::{FieldRow, MethodRow, RefRow, SiteRow, ViewRows};
 use fcg_pool::Pool;
 use fcg_views::{
@@ -29,13 +29,24 @@ fn find_span(pool: &Pool<'_>, index: u16) -> (usize, usize)
     }
 }
 
+// Keeps the number of the text of the Utf8 at an index, where there is a place for it.
+fn keep_number(numbers: &mut Vec<u16>, index: u16, number: u16)
+    ensures { NumberKept index number numbers.old.items numbers.new.items }
+{
+    if number < u16::MAX
+        && let Some(slot) = numbers.get_mut(usize::from(index))
+    {
+        *slot = number + 1;
+    }
+}
+
 // The names that were made of the texts of a pool, in the order in which they were made.
 #[derive(Drop)]
 struct Naming<'a> {
     pool: &'a Pool<'a>,
     list: NameList,
-    // by the index of a Utf8 the number of its text, where it has one
-    numbers: Vec<Option<u16>>,
+    // by the index of a Utf8 one more than the number of its text, or 0 where it has none yet
+    numbers: Vec<u16>,
 }
 
 impl<'a> Model for Naming<'a> {
@@ -54,7 +65,7 @@ impl<'a> Naming<'a> {
         ensures { IfOk result (λ naming. naming ≡ record { pool = pool.now; list = record { block = pool.now.bytes; texts = []; numbers = [] } }) }
     {
         let file = Name::from_slice(alloc, pool.bytes())?;
-        let numbers = nothing_kept(alloc, pool.len() + 1)?;
+        let numbers = unasked(alloc, pool.len() + 1)?;
         Ok(Naming {
             pool,
             list: NameList::new(alloc, file),
@@ -62,21 +73,33 @@ impl<'a> Naming<'a> {
         })
     }
 
+    // Adds the text of the Utf8 at an index, and gives its number.
+    #[inline(never)]
+    fn add_text(&mut self, index: u16) -> Result<u16, AllocError>
+        ensures number { IfOk result (IsNumberOf self.new index) }
+        ensures names { NamesMore self.old self.new [] }
+    {
+        let (begin, len) = find_span(self.pool, index);
+        let number = self.list.add_text(begin, len)?;
+        keep_number(&mut self.numbers, index, number);
+        Ok(number)
+    }
+
     // The number of the text of the Utf8 at an index. The text is added where it has none.
+    #[inline(always)]
     fn number(&mut self, index: u16) -> Result<u16, AllocError>
         ensures number { IfOk result (IsNumberOf self.new index) }
         ensures names { NamesMore self.old self.new [] }
     {
-        if let Some(number) = find_kept(&self.numbers, index) {
-            return Ok(*number);
+        let kept = first_of(&self.numbers, index);
+        if kept > 0 {
+            return Ok(kept - 1);
         }
-        let (begin, len) = find_span(self.pool, index);
-        let number = self.list.add_text(begin, len)?;
-        keep(&mut self.numbers, index, number);
-        Ok(number)
+        self.add_text(index)
     }
 
     // The name that is the text of the Utf8 at an index.
+    #[inline(always)]
     fn name(&mut self, index: u16) -> Result<Name, AllocError>
         ensures value { IfOk result (λ name. name ≡ text_in self.old.pool index) }
         ensures names { IfOk result (λ name. NamesMore self.old self.new (name ∷ [])) }
@@ -87,6 +110,7 @@ impl<'a> Naming<'a> {
     }
 
     // What a site names.
+    #[inline(always)]
     fn name_ref(&mut self, row: RefRow) -> Result<Ref, AllocError>
         ensures value { IfOk result (λ target. target ≡ ref_in self.old.pool row) }
         ensures names { IfOk result (λ target. NamesMore self.old self.new (names_of_ref target)) }
@@ -103,6 +127,7 @@ impl<'a> Naming<'a> {
     }
 
     // A site.
+    #[inline(always)]
     fn name_site(&mut self, row: SiteRow) -> Result<Site, AllocError>
         ensures value { IfOk result (λ site. site ≡ site_in self.old.pool row) }
         ensures names { IfOk result (λ site. NamesMore self.old self.new (names_of_site site)) }

@@ -1,13 +1,15 @@
 //! The sites of a method's code, and its calls of bootstrap methods: the instructions that name a method, a field, a
 //! type or a bootstrap method (JVMS 6.5).
-ghost use Rattle.std.specs.Prelude.{◌≡◌, ◌+◌, ◌<◌, ◌^◌, OnOk, IfOk, slice_index};
+ghost use Rattle.std.specs.Prelude.{◌≡◌, ◌+◌, ◌<◌, ◌^◌, ℕ, ◌∷◌, [], Ok, OnOk, IfOk, IfSome, slice_index};
 ghost use Rattle.fcg_grammar.specs.Reading.{seen};
 ghost use Rattle.fcg_classfile.specs.Sites.{ToType, site_form, is_dynamic};
-ghost use Rattle.fcg_classfile.specs.Breaks.Pool.{Entries};
+ghost use Rattle.fcg_views.specs.DescriptorSteps.{is_descriptor, is_field_descriptor};
+ghost use Rattle.fcg_classfile.specs.Breaks.Fault.{at_place};
+ghost use Rattle.fcg_classfile.specs.Breaks.Pool.{Entries, reference_of};
 ghost use Rattle.fcg_classfile.specs.Breaks.Instructions.{operand_at};
 ghost use Rattle.fcg_classfile.specs.Breaks.Code.{member_of, target_of, site_of, found_at};
-ghost use Rattle.fcg_pool.specs.CodeValues.{AreRefTexts};
-ghost use Rattle.fcg_reader.specs.Internal.Names.{is_of_kind};
+ghost use Rattle.fcg_pool.specs.CodeValues.{AreRefTexts, texts_seen};
+ghost use Rattle.fcg_reader.specs.Internal.Names.{is_of_kind, method_tag};
 ghost use Rattle.fcg_reader.specs.Internal.Calls.{ArePlaced};
 ghost use Rattle.fcg_reader.specs.Internal.Rows.{ref_in, site_in};
 ghost use Rattle.fcg_reader.specs.Internal.Sites.{GivesFound, form_in, form_seen, target_in, ref_of};
@@ -71,6 +73,19 @@ fn is_dynamic(opcode: u8) -> bool
     opcode == 186
 }
 
+// What a reference names, as texts. A fault is at the given place of the file.
+#[inline(always)]
+fn find_texts<'a>(pool: &Pool<'a>, at: usize, index: u16) -> Result<RefTexts<'a>, ClassFault>
+    ensures value { seen texts_seen result ≡ at_place at index (reference_of pool.now index) }
+    ensures named { IfOk result (AreRefTexts pool.now) }
+    ensures found { IfOk result (λ texts. reference_of pool.now index ≡ Ok (texts_seen texts)) }
+{
+    match pool.reference_texts(index) {
+        Ok(texts) => Ok(texts),
+        Err(rule) => Err(fault_at(at, index, rule.class_rule())),
+    }
+}
+
 // The member of a type that an index names, by a constant of one of these tags and with a descriptor of a kind. A fault
 // is at the given place of the file.
 #[inline(always)]
@@ -84,9 +99,10 @@ fn find_member<'a>(
 ) -> Result<RefTexts<'a>, ClassFault>
     ensures value { seen ref_of result ≡ member_of names.old (is_of_kind kind) tags.now at index }
     ensures named { IfOk result (AreRefTexts names.old) }
+    ensures found { IfOk result (λ member. reference_of names.old index ≡ Ok (texts_seen member)) }
     ensures same { names.new ≡ names.old }
 {
-    let member = at_index(at, index, names.pool().reference_texts(index))?;
+    let member = find_texts(names.pool(), at, index)?;
     if !is_one_of(tags, member.tag) {
         return Err(fault_at(at, index, ClassRule::WrongKind));
     }
@@ -112,19 +128,57 @@ fn row_of(member: &RefTexts<'_>) -> RefRow
     }
 }
 
-// The member of a type that an index names, by a constant of one of these tags and with a descriptor of a kind.
-fn read_member(
+// The field that an index names.
+fn read_field(names: &mut ClassNames<'_>, at: usize, index: u16) -> Result<RefRow, ClassFault>
+    ensures value { seen (ref_in names.old) result ≡ member_of names.old is_field_descriptor (9 ∷ []) at index }
+    ensures same { names.new ≡ names.old }
+{
+    let member = find_member(names, DescKind::Field, &[9], at, index)?;
+    Ok(row_of(&member))
+}
+
+// The tag of the reference that names a method.
+#[inline(always)]
+fn method_tag(method: &RefRow) -> u8
+    ensures { result ≡ method_tag method.now }
+{
+    if method.owner_is_interface_ref {
+        11
+    } else {
+        10
+    }
+}
+
+// The method that an index was found to name before, by a constant of one of these tags.
+#[inline(always)]
+fn find_again(names: &ClassNames<'_>, tags: &[u8], index: u16) -> Option<RefRow>
+    ensures { IfSome result (λ row. (at : ℕ) → member_of names.now is_descriptor tags.now at index ≡ Ok (ref_in names.now row)) }
+{
+    match names.found_method(index) {
+        Some(row) if is_one_of(tags, method_tag(row)) => Some(*row),
+        _ => None,
+    }
+}
+
+// The method that an index names, by a constant of one of these tags, which is looked up once.
+fn read_method(
     names: &mut ClassNames<'_>,
-    kind: DescKind,
     tags: &[u8],
     at: usize,
     index: u16,
 ) -> Result<RefRow, ClassFault>
-    ensures value { seen (ref_in names.old) result ≡ member_of names.old (is_of_kind kind) tags.now at index }
+    ensures value { seen (ref_in names.old) result ≡ member_of names.old is_descriptor tags.now at index }
     ensures same { names.new ≡ names.old }
 {
-    let member = find_member(names, kind, tags, at, index)?;
-    Ok(row_of(&member))
+    if let Some(row) = find_again(names, tags, index) {
+        return Ok(row);
+    }
+    let member = find_member(names, DescKind::Method, tags, at, index)?;
+    let row = row_of(&member);
+    if method_tag(&row) == member.tag {
+        names.keep_method(index, row);
+    }
+    Ok(row)
 }
 
 // The type that an index names, without a member.
@@ -153,8 +207,8 @@ fn read_target(
     ensures same { names.new ≡ names.old }
 {
     match target {
-        Target::Method(tags) => read_member(names, DescKind::Method, tags, at, index),
-        Target::Field => read_member(names, DescKind::Field, &[9], at, index),
+        Target::Method(tags) => read_method(names, tags, at, index),
+        Target::Field => read_field(names, at, index),
         Target::Type => read_type_ref(names.pool(), at, index),
     }
 }

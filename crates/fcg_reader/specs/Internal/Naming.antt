@@ -1,5 +1,5 @@
 -- The names that are made of a pool's texts, with the numbers of these.
-use Rattle.std.specs.Prelude.{◌≡◌, ◌<◌, ◌++◌, ℕ, List, length, All, Option, Some, None, slice_index_or}
+use Rattle.std.specs.Prelude.{◌≡◌, ◌⊎◌, ◌<◌, ◌+◌, ◌++◌, ℕ, List, length, All, slice_index_or}
 use Rattle.fcg_views.specs.NamesIn.{TextNumbers, names_by}
 use Rattle.fcg_views.specs.NamesIn as numbered
 use Rattle.fcg_classfile.specs.Breaks.Pool.{Entries}
@@ -19,8 +19,12 @@ pub record NamesMore (old new : Named) (made : List (List ℕ)) : Type 0 where
   pub pool : new.pool ≡ old.pool
   pub names : names_by new.list ≡ names_by old.list ++ made
 
--- the texts are parts of the file; each name has a text; and what is kept for an index is the number of its text
-pub record IsNamed (n : Named) (numbers : List (Option ℕ)) : Type 0 where
+-- a number may be kept for an index, as one more, beside those that were before
+abbrev pub NumberKept : ℕ → ℕ → List ℕ → List ℕ → Type 0
+NumberKept index number old new = (i kept : ℕ) → slice_index_or new i 0 ≡ kept + 1 → (slice_index_or old i 0 ≡ kept + 1) ⊎ ((i ≡ index) × (kept ≡ number))
+
+-- the texts are parts of the file; each name has a text; and what is kept for an index is one more than the number of its text
+pub record IsNamed (n : Named) (numbers : List ℕ) : Type 0 where
   pub block : n.list.block ≡ n.pool.bytes
   pub below : All (λ number. number < length n.list.texts) n.list.numbers
-  pub kept : (i number : ℕ) → slice_index_or numbers i None ≡ Some number → IsNumberOf n i number
+  pub kept : (i number : ℕ) → slice_index_or numbers i 0 ≡ number + 1 → IsNumberOf n i number

@@ -49,7 +49,7 @@ loop-pc-preserved c =
     )
 
 pub returns-clause-value : goal.returns-clause-value
-returns-clause-value c = rw c.shrink_to_fit.ensures.items (found_done c.args.names.now c.args.code.begin c.args.code.bytes.now c.args.count c.loop-pc.pc _ _ c.loop-pc-test.false c.loop-pc.invariant.1 c.loop-pc.invariant.0)
+returns-clause-value c = found_done c.args.names.now c.args.code.begin c.args.code.bytes.now c.args.count c.loop-pc.pc _ _ c.loop-pc-test.false c.loop-pc.invariant.1 c.loop-pc.invariant.0
 
 pub loop-pc-preserved-then-plain-gt0 : goal.loop-pc-preserved-then-plain-gt0
 loop-pc-preserved-then-plain-gt0 c =

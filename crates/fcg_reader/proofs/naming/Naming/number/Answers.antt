@@ -1,23 +1,11 @@
-use Rattle.std.proofs.Common.{[], ap, subst, sym, ◌∙◌}
-use Rattle.fcg_grammar.specs.Number.{part}
-use Rattle.fcg_reader.specs.Internal.Naming.{Named, IsNumberOf, NamesMore}
-use Rattle.fcg_reader.proofs.NamingLemmas.{names_kept, named_added}
+use Rattle.std.proofs.Common.{◌≡◌, ◌+◌, ◌-◌, slice_index_or, arith, subst, sym, ◌∙◌}
+use Rattle.fcg_reader.specs.Internal.Naming.{Named, IsNumberOf}
 use Rattle.fcg_reader.proofs.naming.Naming.number.Goals as goal
 
-pub returns-in-Some-clause-number : goal.returns-in-Some-clause-number
-returns-in-Some-clause-number c =
-    let found = rw (c.in-Some.is, c.deref.ensures.value) at c.find_kept.ensures in
-    subst (λ (n : Named). IsNumberOf n c.args.index c.in-Some.number.now) c.self.view_is (c.self.invariant.kept c.args.index c.in-Some.number.now (sym found))
-
-pub invariant_of-self-2 : goal.invariant_of-self-2
-invariant_of-self-2 c =
-    let begin = c.find_span-begin.result.0 in
-    let len = c.find_span-begin.result.1 in
-    let text = ap (λ bytes. part bytes begin len) c.self.invariant.block ∙ c.find_span-begin.ensures.text in
-    named_added c.self.inside.pool.now c.self.inside.list c.add_text.new.self (part c.self.inside.list.block begin len) c.in_ok-number.ensures.ok c.args.index c.in_ok-number.number c.self.inside.numbers.items c.keep.new.kept.items c.in_ok-number.ensures.number text c.keep.ensures c.self.invariant
-
-pub returns-clause-names : goal.returns-clause-names
-returns-clause-names c =
-    let text = part c.self.inside.list.block c.find_span-begin.result.0 c.find_span-begin.result.1 in
-    let kept = names_kept c.self.inside.pool.now c.self.inside.list c.add_text.new.self text c.in_ok-number.ensures.ok c.self.inside.numbers.items c.keep.new.kept.items c.self.invariant in
-    subst (λ (n : Named). NamesMore n (record { pool = c.self.inside.pool.now; list = c.add_text.new.self }) []) c.self.view_is kept
+pub returns-then-kept-gt0-clause-number : goal.returns-then-kept-gt0-clause-number
+returns-then-kept-gt0-clause-number c =
+    let kept = c.first_of-kept.result in
+    let found = rw c.deref.ensures.value at c.first_of-kept.ensures in
+    let some = c.if-kept-gt0.true in
+    let more : slice_index_or c.self.inside.numbers.items c.args.index 0 ≡ (kept - 1) + 1 = sym found ∙ omega (arith, some) in
+    subst (λ (n : Named). IsNumberOf n c.args.index (kept - 1)) c.self.view_is (c.self.invariant.kept c.args.index (kept - 1) more)

@@ -9,7 +9,7 @@ use Rattle.fcg_grammar.proofs.Standing.{ok_is}
 use Rattle.fcg_views.specs.declared.view.Method.{Method}
 use Rattle.fcg_views.specs.declared.view.Site.{Site}
 use Rattle.fcg_classfile.specs.ClassFile.{Constant, BootstrapMethod}
-use Rattle.fcg_classfile.specs.Sites.{joined, merged, AreOfCall, AreSites}
+use Rattle.fcg_classfile.specs.Sites.{concat_sites, merged, AreOfCall, AreSites}
 use Rattle.fcg_views.specs.Valid.{site_count}
 use Rattle.fcg_classfile.specs.Breaks.Pool.{Entries}
 use Rattle.fcg_classfile.specs.Breaks.Bootstrap.{call_sites}
@@ -50,8 +50,8 @@ module _ (pool : Entries) (constants : List Constant) (holds : Holds pool consta
   Each ms vs = AllZip (FinishesAs constants rows) ms vs
 
   -- a method has as many sites more as it has handle sites
-  grown : (m : Unfinished) (v : Method) → (is : FinishesAs constants rows m v) → length v.sites ≡ length m.0.sites + length (joined is.sites.each)
-  grown m v is = ap length is.sites.merged_are ∙ many_merged m.0.sites (joined is.sites.each)
+  grown : (m : Unfinished) (v : Method) → (is : FinishesAs constants rows m v) → length v.sites ≡ length m.0.sites + length (concat_sites is.sites.each)
+  grown m v is = ap length is.sites.merged_are ∙ many_merged m.0.sites (concat_sites is.sites.each)
 
   all_grown : (ms : List Unfinished) (vs : List Method) → Each ms vs → own_count ms ≤ site_count vs
   all_grown [] [] z = omega arith
@@ -73,18 +73,18 @@ module _ (pool : Entries) (constants : List Constant) (holds : Holds pool consta
       let a = bind_ok (carried (call_sites pool rows m.1.begin) m.1.calls count) _ y e in
       let each = each_found (AreOfCall constants rows) (call_sites pool rows m.1.begin) (calls_count pool constants holds rows m.1.begin) m.1.calls count a.0 le a.1 in
       let c = each.count_is in
-      subst (λ (z : Method × ℕ). FoundOne m count z) (ok_is (with_sites m.0 (merged m.0.sites (joined a.0.0)), a.0.1) y a.2) (record {
+      subst (λ (z : Method × ℕ). FoundOne m count z) (ok_is (with_sites m.0 (merged m.0.sites (concat_sites a.0.0)), a.0.1) y a.2) (record {
         is = record { same = refl; sites = record { each = a.0.0; each_is = each.each; merged_are = refl } };
-        count_is = omega (arith, c, many_merged m.0.sites (joined a.0.0));
+        count_is = omega (arith, c, many_merged m.0.sites (concat_sites a.0.0));
         few = each.few;
       })
 
-  one_only : (m : Unfinished) (v : Method) (count : ℕ) → (is : FinishesAs constants rows m v) → count + length (joined is.sites.each) ≤ 1000000 → finished pool rows m count ≡ Ok (v, count + length (joined is.sites.each))
+  one_only : (m : Unfinished) (v : Method) (count : ℕ) → (is : FinishesAs constants rows m v) → count + length (concat_sites is.sites.each) ≤ 1000000 → finished pool rows m count ≡ Ok (v, count + length (concat_sites is.sites.each))
   unfolding finished
   one_only m v count is le =
       let each = each_only (AreOfCall constants rows) (call_sites pool rows m.1.begin) (calls_count pool constants holds rows m.1.begin) m.1.calls count is.sites.each is.sites.each_is le in
-      let value : with_sites m.0 (merged m.0.sites (joined is.sites.each)) ≡ v = ap (λ (l : List Site). with_sites m.0 l) (sym is.sites.merged_are) ∙ is.same in
-      rw each (ap (λ (x : Method). Ok (x, count + length (joined is.sites.each))) value)
+      let value : with_sites m.0 (merged m.0.sites (concat_sites is.sites.each)) ≡ v = ap (λ (l : List Site). with_sites m.0 l) (sym is.sites.merged_are) ∙ is.same in
+      rw each (ap (λ (x : Method). Ok (x, count + length (concat_sites is.sites.each))) value)
 
   record FoundMany (ms : List Unfinished) (count : ℕ) (y : List Method × ℕ) : Type 0 where
     each : Each ms y.0
@@ -113,7 +113,7 @@ module _ (pool : Entries) (constants : List Constant) (holds : Holds pool consta
       let own = own_more m ms in
       let total = count_more v vs in
       let here = one_only m v count z.0 (omega (arith, grow, all, own, total, le)) in
-      let below = many_only ms vs (count + length (joined z.0.sites.each)) z.1 (omega (arith, grow, own, total, le)) in
+      let below = many_only ms vs (count + length (concat_sites z.0.sites.each)) z.1 (omega (arith, grow, own, total, le)) in
       (below.0, rw (here, below.1) refl)
 
   pub record FoundWhole (ms : List Unfinished) (vs : List Method) : Type 0 where

@@ -17,7 +17,7 @@ use Rattle.fcg_classfile.specs.declared.fault.ClassFault.{ClassFault}
 use Rattle.fcg_classfile.specs.declared.fault.ClassRule.TheVariants.{Trailing}
 use Rattle.fcg_classfile.specs.ClassFile.{Constant, Utf8, Plain, Named, Pair, Handle, BootstrapMethod, bootstrap_method, bootstrap_info}
 use Rattle.fcg_classfile.specs.Reads.{IsRow, SaysRows}
-use Rattle.fcg_classfile.specs.Sites.{SiteForm, handle_form, joined, AreFormedAt, AreOfConstant, AreOfIndex, AreOfBootstrap, AreOfCall}
+use Rattle.fcg_classfile.specs.Sites.{SiteForm, handle_form, concat_sites, AreFormedAt, AreOfConstant, AreOfIndex, AreOfBootstrap, AreOfCall}
 use Rattle.fcg_classfile.specs.Breaks.Fault.{fault, at_place}
 use Rattle.fcg_classfile.specs.Breaks.Number.{u2_at}
 use Rattle.fcg_classfile.specs.Breaks.Pool.{Entries, constant_of, handle_in}
@@ -146,13 +146,13 @@ pub record Counts {X : Type 0} (Are : X → List Site → Type 0) (read : X → 
   pub found : (x : X) (count : ℕ) (y : List Site × ℕ) → count ≤ 1000000 → read x count ≡ Ok y → Are x y.0 × IsCounted count y
   pub only : (x : X) (count : ℕ) (sites : List Site) → Are x sites → count + length sites ≤ 1000000 → read x count ≡ Ok (sites, count + length sites)
 
-many_joined : (sites : List Site) (more : List (List Site)) → length (joined (sites ∷ more)) ≡ length sites + length (joined more)
-many_joined sites more = ap length (flat_map-cons (λ (l : List Site). l) sites more) ∙ length-append sites (joined more)
+many_joined : (sites : List Site) (more : List (List Site)) → length (concat_sites (sites ∷ more)) ≡ length sites + length (concat_sites more)
+many_joined sites more = ap length (flat_map-cons (λ (l : List Site). l) sites more) ∙ length-append sites (concat_sites more)
 
 module _ {X : Type 0} (Are : X → List Site → Type 0) (read : X → ℕ → Result (List Site × ℕ) ClassFault) (counts : Counts Are read) where
   pub record FoundEach (xs : List X) (count : ℕ) (y : List (List Site) × ℕ) : Type 0 where
     pub each : AllZip Are xs y.0
-    pub count_is : y.1 ≡ count + length (joined y.0)
+    pub count_is : y.1 ≡ count + length (concat_sites y.0)
     pub few : y.1 ≤ 1000000
 
   pub each_found : (xs : List X) (count : ℕ) (y : List (List Site) × ℕ) → count ≤ 1000000 → carried read xs count ≡ Ok y → FoundEach xs count y
@@ -167,7 +167,7 @@ module _ {X : Type 0} (Are : X → List Site → Type 0) (read : X → ℕ → R
       subst (λ (z : List (List Site) × ℕ). FoundEach (x ∷ xs) count z) (ok_is (a.0.0 ∷ b.0.0, b.0.1) y b.2)
       (record { each = (here.0, below.each); count_is = omega (arith, c, d, many_joined a.0.0 b.0.0); few = below.few })
 
-  pub each_only : (xs : List X) (count : ℕ) (each : List (List Site)) → AllZip Are xs each → count + length (joined each) ≤ 1000000 → carried read xs count ≡ Ok (each, count + length (joined each))
+  pub each_only : (xs : List X) (count : ℕ) (each : List (List Site)) → AllZip Are xs each → count + length (concat_sites each) ≤ 1000000 → carried read xs count ≡ Ok (each, count + length (concat_sites each))
   each_only [] count [] z le = (let none : count ≡ count + 0 = omega arith in ap (λ (n : ℕ). Ok ([], n)) none)
   each_only [] count (sites ∷ more) z le = absurd z
   each_only (x ∷ xs) count [] z le = absurd z
@@ -175,7 +175,7 @@ module _ {X : Type 0} (Are : X → List Site → Type 0) (read : X → ℕ → R
       let m = many_joined sites more in
       let here = counts.only x count sites z.0 (omega (arith, le, m)) in
       let below = each_only xs (count + length sites) more z.1 (omega (arith, le, m)) in
-      let total : count + length sites + length (joined more) ≡ count + length (joined (sites ∷ more)) = omega (arith, m) in
+      let total : count + length sites + length (concat_sites more) ≡ count + length (concat_sites (sites ∷ more)) = omega (arith, m) in
       rw (here, below) (ap (λ (n : ℕ). Ok (sites ∷ more, n)) total)
 
 module _ (pool : Entries) (constants : List Constant) (holds : Holds pool constants) where
@@ -247,7 +247,7 @@ module _ (pool : Entries) (constants : List Constant) (holds : Holds pool consta
         let handle = constant_found pool constants holds b.handle h.0 h.1 ∙ ap (λ (c : Constant). Some c) (handle_by h.0 a.0 h.2) in
         let r = bind_ok (carried (index_sites pool at pc) (b.handle ∷ b.arguments) count) _ y a.2 in
         let each = each_found (AreOfIndex constants pc) (index_sites pool at pc) indexes_count (b.handle ∷ b.arguments) count r.0 le r.1 in
-        subst (λ (z : List Site × ℕ). AreOfBootstrap constants pc b z.0 × IsCounted count z) (ok_is (joined r.0.0, r.0.1) y r.2)
+        subst (λ (z : List Site × ℕ). AreOfBootstrap constants pc b z.0 × IsCounted count z) (ok_is (concat_sites r.0.0, r.0.1) y r.2)
         (record { kind = a.0.0; index = a.0.1; handle = handle; each = r.0.0; each_is = each.each; all = refl }, record { count_is = each.count_is; few = each.few })
 
     bootstrap_sites_only : (b : BootstrapMethod) (count : ℕ) (sites : List Site) → AreOfBootstrap constants pc b sites → count + length sites ≤ 1000000 → row_sites pool at pc b count ≡ Ok (sites, count + length sites)

@@ -15,7 +15,7 @@ use Rattle.fcg_views.specs.declared.view.Site.{Site}
 use Rattle.fcg_classfile.specs.declared.fault.ClassRule.TheVariants.{DoubleMethod, DoubleCode}
 use Rattle.fcg_classfile.specs.ClassFile.{Constant, BootstrapMethod, Attribute, attribute, MemberInfo, member_info}
 use Rattle.fcg_classfile.specs.Reads.{HasOne, SaysCode, HasCode, IsDeclared, IsMethodOf}
-use Rattle.fcg_classfile.specs.Sites.{Found, nothing, joined, AreSites}
+use Rattle.fcg_classfile.specs.Sites.{Found, nothing, concat_sites, AreSites}
 use Rattle.fcg_views.specs.Descriptor.{IsDescriptor}
 use Rattle.fcg_views.specs.DescriptorSteps.{is_descriptor}
 use Rattle.fcg_views.specs.Valid.{site_count, is_alike}
@@ -328,7 +328,7 @@ module _ (pool : Entries) (fits : IsBytes pool.bytes) (constants : List Constant
         omega arith
       where
         some_merged : (x : Found) (sites : List Site) → AreSites constants bootstrap x sites → length x.sites ≤ length sites
-        some_merged x sites are = (let n = ap length are.merged_are ∙ many_merged x.sites (joined are.each) in omega arith)
+        some_merged x sites are = (let n = ap length are.merged_are ∙ many_merged x.sites (concat_sites are.each) in omega arith)
 
     pub record ReadMethods (at : ℕ) (vs : List Method) (rest : List ℕ) (after : ℕ) : Type 0 where
       pub methods : List Unfinished

@@ -14,7 +14,7 @@ use Rattle.fcg_classfile.specs.ClassFile.{Constant, Utf8, Named, Pair, Handle, s
 use Rattle.fcg_classfile.specs.Constants.{NamesUtf8, NamesReference}
 use Rattle.fcg_classfile.specs.Reads.{NamesType, NamesSuper, Fits, HasOne, SaysCode, IsFieldOf, IsMethodOf, IsViewOf, Reads}
 use Rattle.fcg_classfile.specs.Instructions.{Instruction, Plain, TableSwitch, LookupSwitch, Widened, instruction}
-use Rattle.fcg_classfile.specs.Sites.{Target, ToMethod, ToField, ToType, SiteForm, site_form, handle_form, IsTarget, IsSite, AreFormed, Found, nothing, AreOf, AreFound, joined, AreFormedAt, AreOfConstant, AreOfIndex, AreOfCall, merged, AreSites}
+use Rattle.fcg_classfile.specs.Sites.{Target, ToMethod, ToField, ToType, SiteForm, site_form, handle_form, IsTarget, IsSite, AreFormed, Found, nothing, AreOf, AreFound, concat_sites, AreFormedAt, AreOfConstant, AreOfIndex, AreOfCall, merged, AreSites}
 use Rattle.fcg_classfile.proofs.KeptLaws.{at_slot, all_slots}
 use Rattle.fcg_classfile.proofs.WordLaws.{methods_distinct}
 use Rattle.fcg_views.specs.Valid.{IsShort, IsTable, IsShortOrNone, HasShortNames, IsValidField, IsValidMethod, IsValid}
@@ -114,12 +114,12 @@ module _ (cs : List Constant) (fit : AllByRecursion Fits cs) where
   short_index : (pc index : ℕ) (sites : List Site) → AreOfIndex cs pc index sites → AllShort sites
   short_index pc index sites (c, is, are) = short_constant pc c sites are
 
-  all_joined : {X : Type 0} (Are : X → List Site → Type 0) → ((x : X) (sites : List Site) → Are x sites → AllShort sites) → (xs : List X) (each : List (List Site)) → AllZip Are xs each → AllShort (joined each)
+  all_joined : {X : Type 0} (Are : X → List Site → Type 0) → ((x : X) (sites : List Site) → Are x sites → AllShort sites) → (xs : List X) (each : List (List Site)) → AllZip Are xs each → AllShort (concat_sites each)
   all_joined Are h [] [] z = tt
   all_joined Are h [] (sites ∷ more) z = absurd z
   all_joined Are h (x ∷ xs) [] z = absurd z
   all_joined Are h (x ∷ xs) (sites ∷ more) z =
-      subst AllShort (sym (flat_map-cons (λ (l : List Site). l) sites more)) (both_short sites (joined more) (h x sites z.0) (all_joined Are h xs more z.1))
+      subst AllShort (sym (flat_map-cons (λ (l : List Site). l) sites more)) (both_short sites (concat_sites more) (h x sites z.0) (all_joined Are h xs more z.1))
 
   short_call : (rows : List BootstrapMethod) (call : DynamicCall) (sites : List Site) → AreOfCall cs rows call sites → AllShort sites
   short_call rows call sites (b, is, are) = subst AllShort (sym are.all) (all_joined (AreOfIndex cs call.pc) (short_index call.pc) (b.handle ∷ b.arguments) are.each are.each_is)
@@ -135,7 +135,7 @@ module _ (cs : List Constant) (fit : AllByRecursion Fits cs) where
 
   short_sites : (rows : List BootstrapMethod) (x : Found) (sites : List Site) → AllShort x.sites → AreSites cs rows x sites → AllShort sites
   short_sites rows x sites short are =
-      subst AllShort (sym are.merged_are) (short_merged x.sites (joined are.each) short (all_joined (AreOfCall cs rows) (short_call rows) x.calls are.each are.each_is))
+      subst AllShort (sym are.merged_are) (short_merged x.sites (concat_sites are.each) short (all_joined (AreOfCall cs rows) (short_call rows) x.calls are.each are.each_is))
 
   valid_method : (rows : List BootstrapMethod) (c : MemberInfo) (m : Method) → IsMethodOf cs rows c m → IsValidMethod m
   valid_method rows c m is =

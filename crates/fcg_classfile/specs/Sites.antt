@@ -131,8 +131,8 @@ AreFound pool pc (i ∷ is) x =
 
 -- ==== what calls have by their bootstrap methods
 
-abbrev pub joined : List (List Site) → List Site
-joined each = flat_map (λ sites. sites) each
+abbrev pub concat_sites : List (List Site) → List Site
+concat_sites each = flat_map (λ sites. sites) each
 
 abbrev pub AreFormedAt : List Constant → Option SiteForm → ℕ → ℕ → List Site → Type 0
 AreFormedAt pool None pc index sites = sites ≡ []
@@ -156,7 +156,7 @@ pub record AreOfBootstrap (pool : List Constant) (pc : ℕ) (b : BootstrapMethod
   pub handle : constant_at pool b.handle ≡ Some (file.Handle kind index)
   pub each : List (List Site)
   pub each_is : AllZip (AreOfIndex pool pc) (b.handle ∷ b.arguments) each
-  pub all : sites ≡ joined each
+  pub all : sites ≡ concat_sites each
 
 -- the handle sites of an invokedynamic
 abbrev pub AreOfCall : List Constant → List BootstrapMethod → DynamicCall → List Site → Type 0
@@ -172,4 +172,4 @@ merged (s ∷ ss) (h ∷ hs) = if nat_lt h.pc s.pc then h ∷ merged (s ∷ ss) 
 pub record AreSites (pool : List Constant) (rows : List BootstrapMethod) (x : Found) (sites : List Site) : Type 0 where
   pub each : List (List Site)
   pub each_is : AllZip (AreOfCall pool rows) x.calls each
-  pub merged_are : sites ≡ merged x.sites (joined each)
+  pub merged_are : sites ≡ merged x.sites (concat_sites each)

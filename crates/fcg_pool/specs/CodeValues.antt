@@ -23,8 +23,8 @@ IsTextOf p t =
 abbrev pub AreRefTexts : pool.Entries → RefTexts → Type 0
 AreRefTexts p x = IsTextOf p x.owner × IsTextOf p x.name × IsTextOf p x.desc
 
-abbrev pub texts_seen : RefTexts → pool.Reference
-texts_seen x = record { tag = x.tag; owner = x.owner.bytes.now; name = x.name.bytes.now; desc = x.desc.bytes.now }
+abbrev pub reference_texts : RefTexts → pool.Reference
+reference_texts x = record { tag = x.tag; owner = x.owner.bytes.now; name = x.name.bytes.now; desc = x.desc.bytes.now }
 
 -- the name of the Class at an index
 abbrev pub class_name_of : pool.Entries → ℕ → Result (List ℕ) PoolRule

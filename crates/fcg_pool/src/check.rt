@@ -2,7 +2,7 @@
 ghost use Rattle.std.specs.Prelude.{◌≡◌, ◌∷◌, []};
 ghost use Rattle.fcg_classfile.specs.ClassFile.{is_one_of, handle_tags, pair_wants, wants};
 ghost use Rattle.fcg_classfile.specs.Breaks.Pool.{want_kept, wants_kept, is_kind, has_room, constant_kept, at_tag, slot_kept};
-ghost use Rattle.fcg_pool.specs.Internal.Entry.{constant_seen};
+ghost use Rattle.fcg_pool.specs.Internal.Entry.{entry_constant};
 ghost use Rattle.fcg_pool.specs.Internal.ConstantAt.{slot_in, IsInside};
 
 use crate::constant::{Entry, find_constant};
@@ -62,7 +62,7 @@ fn check_pair(pool: &Pool<'_>, tag: u8, i: u16, j: u16) -> Result<(), PoolRule>
 
 // The indexes of a constant.
 fn check_wants(pool: &Pool<'_>, constant: Entry<'_>) -> Result<(), PoolRule>
-    ensures { result ≡ wants_kept pool.now (wants (constant_seen constant.entry)) }
+    ensures { result ≡ wants_kept pool.now (wants (entry_constant constant.entry)) }
 {
     match constant {
         Entry::Utf8(_) => Ok(()),
@@ -81,7 +81,7 @@ fn check_wants(pool: &Pool<'_>, constant: Entry<'_>) -> Result<(), PoolRule>
 
 // A method handle is of a kind from 1 to 9.
 fn is_kind(constant: Entry<'_>) -> bool
-    ensures { result ≡ is_kind (constant_seen constant.entry) }
+    ensures { result ≡ is_kind (entry_constant constant.entry) }
 {
     match constant {
         Entry::Utf8(_) => true,
@@ -94,14 +94,14 @@ fn is_kind(constant: Entry<'_>) -> bool
 
 // The second index of a Long or Double is in the pool.
 fn has_room(pool: &Pool<'_>, index: u16, constant: Entry<'_>) -> bool
-    ensures { result ≡ has_room pool.now index (constant_seen constant.entry) }
+    ensures { result ≡ has_room pool.now index (entry_constant constant.entry) }
 {
     !constant.is_wide() || usize::from(index) < pool.len()
 }
 
 #[tactic(auto, unfolding(fcg_classfile::specs::Breaks::Pool::constant_kept))]
 fn check_constant(pool: &Pool<'_>, index: u16, constant: Entry<'_>) -> Result<(), PoolRule>
-    ensures { result ≡ constant_kept pool.now index (constant_seen constant.entry) }
+    ensures { result ≡ constant_kept pool.now index (entry_constant constant.entry) }
 {
     if !has_room(pool, index, constant) {
         return Err(PoolRule::BadIndex);

@@ -5,7 +5,7 @@ ghost use Rattle.fcg_grammar.specs.Number.{u2, part};
 ghost use Rattle.fcg_classfile.specs.ClassFile as file;
 ghost use Rattle.fcg_classfile.specs.ClassFile.{is_one_of, tag_of, is_wide};
 ghost use Rattle.fcg_classfile.specs.Breaks.Pool.{shaped_at, constant_read, text_in, name_in, pair_in};
-ghost use Rattle.fcg_pool.specs.Internal.Entry.{shape_seen, constant_seen};
+ghost use Rattle.fcg_pool.specs.Internal.Entry.{shape_if_any, entry_constant};
 ghost use Rattle.fcg_pool.specs.Internal.Entry.{indexes_of};
 ghost use Rattle.fcg_pool.specs.Internal.ConstantAt.{shaped_in, constant_in, ShapeLies, Lies};
 
@@ -43,7 +43,7 @@ pub enum Entry<'a> {
 impl<'a> Entry<'a> {
     /// The tag.
     pub fn tag(self) -> u8
-        ensures { result ≡ tag_of (constant_seen self.entry) }
+        ensures { result ≡ tag_of (entry_constant self.entry) }
     {
         match self {
             Entry::Utf8(_) => 1,
@@ -56,7 +56,7 @@ impl<'a> Entry<'a> {
 
     /// Whether it is a Long or a Double, which take two indexes.
     pub fn is_wide(self) -> bool
-        ensures { result ≡ is_wide (constant_seen self.entry) }
+        ensures { result ≡ is_wide (entry_constant self.entry) }
     {
         let tag = self.tag();
         tag == 5 || tag == 6
@@ -65,7 +65,7 @@ impl<'a> Entry<'a> {
 
 // The shape of a tag that is in the table (JVMS 4.4, table 4.4-A).
 fn shape_of(tag: u8) -> Option<Shape>
-    ensures { shape_seen result ≡ file.shape_of tag }
+    ensures { shape_if_any result ≡ file.shape_of tag }
 {
     match tag {
         1 => Some(Shape::Text),
@@ -81,7 +81,7 @@ fn shape_of(tag: u8) -> Option<Shape>
 #[tactic(auto, unfolding(fcg_classfile::specs::Breaks::Pool::shaped_at))]
 fn read_text(bytes: &[u8], index: u16, at: usize) -> Result<(Entry<'_>, usize), PoolFault>
     requires { at < length bytes.now }
-    ensures { seen (λ x. (constant_seen x.0, x.1)) result ≡ shaped_at bytes.now index at 1 (Some file.Text) }
+    ensures { seen (λ x. (entry_constant x.0, x.1)) result ≡ shaped_at bytes.now index at 1 (Some file.Text) }
 {
     let len = usize::from(read_u2(bytes, at + 1)?);
     let text = read_part(bytes, at + 3, len)?;
@@ -100,7 +100,7 @@ fn read_plain(
     n: u8,
 ) -> Result<(Entry<'_>, usize), PoolFault>
     requires { at < length bytes.now }
-    ensures { seen (λ x. (constant_seen x.0, x.1)) result ≡ shaped_at bytes.now index at tag (Some (file.Bytes n)) }
+    ensures { seen (λ x. (entry_constant x.0, x.1)) result ≡ shaped_at bytes.now index at tag (Some (file.Bytes n)) }
 {
     let read = read_part(bytes, at + 1, usize::from(n))?;
     Ok((Entry::Plain(tag, read), at + 1 + usize::from(n)))
@@ -109,7 +109,7 @@ fn read_plain(
 #[tactic(auto, unfolding(fcg_classfile::specs::Breaks::Pool::shaped_at))]
 fn read_named(bytes: &[u8], index: u16, at: usize, tag: u8) -> Result<(Entry<'_>, usize), PoolFault>
     requires { at < length bytes.now }
-    ensures { seen (λ x. (constant_seen x.0, x.1)) result ≡ shaped_at bytes.now index at tag (Some file.One) }
+    ensures { seen (λ x. (entry_constant x.0, x.1)) result ≡ shaped_at bytes.now index at tag (Some file.One) }
 {
     let i = read_u2(bytes, at + 1)?;
     Ok((Entry::Named(tag, i), at + 3))
@@ -118,7 +118,7 @@ fn read_named(bytes: &[u8], index: u16, at: usize, tag: u8) -> Result<(Entry<'_>
 #[tactic(auto, unfolding(fcg_classfile::specs::Breaks::Pool::shaped_at))]
 fn read_pair(bytes: &[u8], index: u16, at: usize, tag: u8) -> Result<(Entry<'_>, usize), PoolFault>
     requires { at < length bytes.now }
-    ensures { seen (λ x. (constant_seen x.0, x.1)) result ≡ shaped_at bytes.now index at tag (Some file.Two) }
+    ensures { seen (λ x. (entry_constant x.0, x.1)) result ≡ shaped_at bytes.now index at tag (Some file.Two) }
 {
     let i = read_u2(bytes, at + 1)?;
     let j = read_u2(bytes, at + 3)?;
@@ -128,7 +128,7 @@ fn read_pair(bytes: &[u8], index: u16, at: usize, tag: u8) -> Result<(Entry<'_>,
 #[tactic(auto, unfolding(fcg_classfile::specs::Breaks::Pool::shaped_at))]
 fn read_handle(bytes: &[u8], index: u16, at: usize) -> Result<(Entry<'_>, usize), PoolFault>
     requires { at < length bytes.now }
-    ensures { seen (λ x. (constant_seen x.0, x.1)) result ≡ shaped_at bytes.now index at 15 (Some file.Kinded) }
+    ensures { seen (λ x. (entry_constant x.0, x.1)) result ≡ shaped_at bytes.now index at 15 (Some file.Kinded) }
 {
     let kind = read_u1(bytes, at + 1)?;
     let i = read_u2(bytes, at + 2)?;
@@ -144,7 +144,7 @@ fn read_shaped(
     shape: Option<Shape>,
 ) -> Result<(Entry<'_>, usize), PoolFault>
     requires { at < length bytes.now }
-    ensures { seen (λ x. (constant_seen x.0, x.1)) result ≡ shaped_at bytes.now index at tag (shape_seen shape) }
+    ensures { seen (λ x. (entry_constant x.0, x.1)) result ≡ shaped_at bytes.now index at tag (shape_if_any shape) }
 {
     match shape {
         None => Err(pool_fault_at(at, index, PoolRule::BadTag)),
@@ -160,7 +160,7 @@ fn read_shaped(
 #[tactic(auto, unfolding(fcg_classfile::specs::Breaks::Pool::constant_read))]
 pub fn read_constant(bytes: &[u8], index: u16, at: usize) -> Result<(Entry<'_>, usize), PoolFault>
     requires { at ≤ length bytes.now }
-    ensures { seen (λ x. (constant_seen x.0, x.1)) result ≡ constant_read bytes.now index at }
+    ensures { seen (λ x. (entry_constant x.0, x.1)) result ≡ constant_read bytes.now index at }
 {
     let tag = read_u1(bytes, at)?;
     read_shaped(bytes, index, at, tag, shape_of(tag))
@@ -214,8 +214,8 @@ pub fn name_at(bytes: &[u8], at: usize) -> Result<u16, PoolRule>
 // The two indexes of a constant of a shape and of a tag.
 #[tactic(auto, unfolding(crate::specs::Internal::ConstantAt::shaped_in, crate::specs::Internal::ConstantAt::ShapeLies))]
 fn shaped_pair(bytes: &[u8], at: usize, tag: u8, shape: Option<Shape>) -> Result<Indexes, PoolRule>
-    requires { ShapeLies bytes.now at (shape_seen shape) }
-    ensures { (tags : List ℕ) → is_one_of tags tag ≡ true → seen indexes_of result ≡ pair_in tags (shaped_in bytes.now at tag (shape_seen shape)) }
+    requires { ShapeLies bytes.now at (shape_if_any shape) }
+    ensures { (tags : List ℕ) → is_one_of tags tag ≡ true → seen indexes_of result ≡ pair_in tags (shaped_in bytes.now at tag (shape_if_any shape)) }
 {
     match shape {
         None => unreachable!(),
@@ -243,8 +243,8 @@ pub fn pair_at(bytes: &[u8], at: usize, tags: &[u8]) -> Result<Indexes, PoolRule
 
 #[tactic(auto, unfolding(crate::specs::Internal::ConstantAt::shaped_in, crate::specs::Internal::ConstantAt::ShapeLies))]
 fn find_shaped(bytes: &[u8], at: usize, tag: u8, shape: Option<Shape>) -> Entry<'_>
-    requires { ShapeLies bytes.now at (shape_seen shape) }
-    ensures { constant_seen result ≡ shaped_in bytes.now at tag (shape_seen shape) }
+    requires { ShapeLies bytes.now at (shape_if_any shape) }
+    ensures { entry_constant result ≡ shaped_in bytes.now at tag (shape_if_any shape) }
 {
     match shape {
         None => unreachable!(),
@@ -272,7 +272,7 @@ pub fn find_tag(bytes: &[u8], at: usize) -> u8
 #[tactic(auto, unfolding(crate::specs::Internal::ConstantAt::constant_in))]
 pub fn find_constant(bytes: &[u8], at: usize) -> Entry<'_>
     requires { Lies bytes.now at }
-    ensures { constant_seen result ≡ constant_in bytes.now at }
+    ensures { entry_constant result ≡ constant_in bytes.now at }
 {
     let tag = bytes[at];
     find_shaped(bytes, at, tag, shape_of(tag))

@@ -5,7 +5,7 @@ ghost use Rattle.fcg_classfile.specs.Instructions.{form_of, Fixed, wide_of, move
 ghost use Rattle.fcg_classfile.specs.Sites.{site_form, is_dynamic};
 ghost use Rattle.fcg_classfile.specs.Breaks.Instructions.{passed, table_at, lookup_at, wide_at, formed_at, next_at, operand_in, operand_at};
 ghost use Rattle.fcg_pool.specs.CodeValues.{place_given};
-ghost use Rattle.fcg_pool.specs.Internal.Layout.{form_seen, form_of_number, least_after};
+ghost use Rattle.fcg_pool.specs.Internal.Layout.{form_if_any, form_of_number, least_after};
 ghost use Rattle.fcg_pool.specs.declared.instruction.TheConstants.{LAYOUTS};
 
 use crate::constant::u2_in;
@@ -59,7 +59,7 @@ fn layout_number(opcode: u8) -> u8
 
 // What a number of the table tells.
 fn layout_of_number(number: u8) -> Option<Layout>
-    ensures { form_seen result ≡ form_of_number number }
+    ensures { form_if_any result ≡ form_of_number number }
 {
     match number {
         0..=4 => Some(Layout::Fixed(usize::from(number))),
@@ -75,7 +75,7 @@ fn layout_of_number(number: u8) -> Option<Layout>
 // What follows an opcode. It is asked for each instruction, and a table tells it in the fewest steps.
 #[tactic(auto, using(crate::proofs::Layouts::layout_of_number))]
 fn layout_of(opcode: u8) -> Option<Layout>
-    ensures { form_seen result ≡ form_of opcode }
+    ensures { form_if_any result ≡ form_of opcode }
 {
     layout_of_number(layout_number(opcode))
 }
@@ -168,7 +168,7 @@ fn pass_widened(code: &[u8], at: usize) -> Result<usize, CodeRule>
 // The place after an instruction whose opcode stands at a place, by what follows the opcode.
 fn pass_layout(code: &[u8], at: usize, layout: Layout) -> Result<usize, CodeRule>
     requires { at < length code.now }
-    ensures value { result ≡ formed_at code.now at (form_seen (Some layout)) }
+    ensures value { result ≡ formed_at code.now at (form_if_any (Some layout)) }
     ensures inside { IfOk result (λ next. (at + least_after layout < next) × (next ≤ length code.now)) }
 {
     match layout {
@@ -188,7 +188,7 @@ fn pass_layout(code: &[u8], at: usize, layout: Layout) -> Result<usize, CodeRule
 // The number of the two bytes after an opcode that stands at a place, where the instruction has so many.
 fn operand_after(code: &[u8], at: usize, layout: Layout) -> u16
     requires { at + least_after layout < length code.now }
-    ensures { result ≡ operand_in code.now at (form_seen (Some layout)) }
+    ensures { result ≡ operand_in code.now at (form_if_any (Some layout)) }
 {
     match layout {
         Layout::Fixed(n) if n < 2 => 0,

@@ -76,9 +76,9 @@ impl<'a> Model for Pool<'a> {
 impl<'a> Pool<'a> {
     ghost use Rattle.fcg_classfile.specs.Breaks.Pool.{Entries, constant_of, text_of, name_of, pair_of, reference_of, handle_of, dynamic_of, slot_kept, pool_at};
     ghost use Rattle.fcg_classfile.specs.ClassFile.{tag_of};
-    ghost use Rattle.fcg_pool.specs.Internal.Entry.{constant_seen};
+    ghost use Rattle.fcg_pool.specs.Internal.Entry.{entry_constant};
     ghost use Rattle.fcg_pool.specs.Internal.ConstantAt.{constant_in, Lies};
-    ghost use Rattle.fcg_pool.specs.CodeValues.{span_of, texts_seen, IsTextOf, AreRefTexts, class_name_of, handle_pair_of, handle_indexes_of};
+    ghost use Rattle.fcg_pool.specs.CodeValues.{span_of, reference_texts, IsTextOf, AreRefTexts, class_name_of, handle_pair_of, handle_indexes_of};
     ghost use Rattle.fcg_pool.specs.Internal.Entry.{indexes_of};
 
     /// The bytes of the file.
@@ -114,7 +114,7 @@ impl<'a> Pool<'a> {
 
     // The constant at an index.
     pub(crate) fn constant(&self, index: u16) -> Result<Entry<'a>, PoolRule>
-        ensures { seen constant_seen result ≡ constant_of self.now index }
+        ensures { seen entry_constant result ≡ constant_of self.now index }
     {
         let at = self.place(index)?;
         Ok(find_constant(self.bytes(), at))
@@ -183,7 +183,7 @@ impl<'a> Pool<'a> {
     /// rule that the first of its indexes breaks: those of the owner come before those of the name and the descriptor.
     #[tactic(auto, unfolding(fcg_classfile::specs::Breaks::Pool::reference_of))]
     pub fn reference_texts(&self, index: u16) -> Result<RefTexts<'a>, PoolRule>
-        ensures value { seen texts_seen result ≡ reference_of self.now index }
+        ensures value { seen reference_texts result ≡ reference_of self.now index }
         ensures named { IfOk result (AreRefTexts self.now) }
     {
         let pair = self.pair(&[9, 10, 11], index)?;

@@ -23,7 +23,7 @@ use Rattle.fcg_classfile.specs.declared.fault.PoolRule.{PoolRule}
 use Rattle.fcg_classfile.specs.declared.fault.ClassRule.TheVariants.{WrongKind, EmptyName, Descriptor, ManySites, Bootstrap}
 use Rattle.fcg_classfile.specs.ClassFile.{is_one_of, Constant, Utf8, Plain, Named, Pair, Handle, BootstrapMethod}
 use Rattle.fcg_views.specs.DescriptorSteps.{is_descriptor, is_field_descriptor}
-use Rattle.fcg_classfile.specs.Sites.{Target, ToMethod, ToField, ToType, SiteForm, handle_form, joined, merged}
+use Rattle.fcg_classfile.specs.Sites.{Target, ToMethod, ToField, ToType, SiteForm, handle_form, concat_sites, merged}
 use Rattle.fcg_classfile.specs.Breaks.Fault.{fault, rule_of, at_place}
 use Rattle.fcg_classfile.specs.Breaks.Pool.{Entries, constant_of, reference_of, name_of, text_of, handle_in}
 use Rattle.fcg_classfile.specs.Breaks.Names.{type_of}
@@ -98,7 +98,7 @@ module _ {V W X Y S : Type 0} (f : V → X) (g : W → Y) (read : X → S → Re
 
 -- the same where each of the list gives a list
 abbrev pub with_joined : Entries → List SiteRow → Result (List (List Site) × ℕ) ClassFault → Result (List Site × ℕ) ClassFault
-with_joined pool front read = read >>= λ x. Ok (sites_in pool front ++ joined x.0, x.1)
+with_joined pool front read = read >>= λ x. Ok (sites_in pool front ++ concat_sites x.0, x.1)
 
 module _ {X : Type 0} (pool : Entries) (read : X → ℕ → Result (List Site × ℕ) ClassFault) where
   regroup_joined : (front here : List SiteRow) (others : Result (List (List Site) × ℕ) ClassFault) → with_joined pool front (others >>= λ o. Ok (sites_in pool here ∷ o.0, o.1)) ≡ with_joined pool (front ++ here) others
@@ -317,13 +317,13 @@ module _ (pool : Entries) (at there : ℕ) where
       last (Err f) = refl
 
   indexes_again : (pc to : ℕ) (indexes : List ℕ) (count now : ℕ) (read : List (List Site) × ℕ) → carried (index_sites pool at pc) indexes count ≡ Ok read
-      → all_joined (carried (index_sites pool there to) indexes now) ≡ all_moved_at there to (joined read.0) now
+      → all_joined (carried (index_sites pool there to) indexes now) ≡ all_moved_at there to (concat_sites read.0) now
   indexes_again pc to [] count now read e = rw (← ok_is _ read e) refl
   indexes_again pc to (i ∷ is) count now read e =
       let a = bind_ok (index_sites pool at pc i count) _ read e in
       let b = bind_ok (carried (index_sites pool at pc) is a.0.1) _ read a.2 in
-      rw (← ok_is _ read b.2, index_again pc count to now i a.0 a.1, carried_append (moved_at there to) a.0.0 (joined b.0.0) now)
-      (again_first pc to is (joined b.0.0) (λ n. indexes_again pc to is a.0.1 n b.0 b.1) (all_moved_at there to a.0.0 now))
+      rw (← ok_is _ read b.2, index_again pc count to now i a.0 a.1, carried_append (moved_at there to) a.0.0 (concat_sites b.0.0) now)
+      (again_first pc to is (concat_sites b.0.0) (λ n. indexes_again pc to is a.0.1 n b.0 b.1) (all_moved_at there to a.0.0 now))
 
 pub row_everywhere : (pool : Entries) (at pc count n : ℕ) (b : BootstrapMethod) (sites : List Site) → row_sites pool at pc b count ≡ Ok (sites, n) → AreSitesOf pool b sites
 unfolding row_sites
@@ -454,7 +454,7 @@ module _ (pool : Entries) (rows : List BootstrapMethod) (m : MethodRow × Calls)
   finished_none read none =
       let a = bind_ok (carried (call_sites pool rows m.1.begin) m.1.calls count) _ (counted pool count sites) read in
       let last = ok_is _ (counted pool count sites) a.2 in
-      let empty : joined a.0.0 ≡ [] = ap (λ (x : List Site × ℕ). x.0) last ∙ ap (sites_in pool) (nil_from_length sites none) in
+      let empty : concat_sites a.0.0 ≡ [] = ap (λ (x : List Site × ℕ). x.0) last ∙ ap (sites_in pool) (nil_from_length sites none) in
       let after : a.0.1 ≡ count = ap (λ (x : List Site × ℕ). x.1) last ∙ omega (arith, none) in
       rw (a.1, empty, after, merged_none (sites_in pool m.0.sites)) refl
 
@@ -464,6 +464,6 @@ module _ (pool : Entries) (rows : List BootstrapMethod) (m : MethodRow × Calls)
   finished_some merged read is =
       let a = bind_ok (carried (call_sites pool rows m.1.begin) m.1.calls count) _ (counted pool count sites) read in
       let last = ok_is _ (counted pool count sites) a.2 in
-      let handles : joined a.0.0 ≡ sites_in pool sites = ap (λ (x : List Site × ℕ). x.0) last in
+      let handles : concat_sites a.0.0 ≡ sites_in pool sites = ap (λ (x : List Site × ℕ). x.0) last in
       let after : a.0.1 ≡ count + length sites = ap (λ (x : List Site × ℕ). x.1) last in
       rw (a.1, handles, after, is, merged_in pool m.0.sites sites) refl

@@ -13,14 +13,14 @@ ghost use Rattle.fcg_classfile.specs.Breaks.Fault.{in_pool};
 ghost use Rattle.fcg_classfile.specs.Breaks.Pool.{pool_at};
 ghost use Rattle.fcg_classfile.specs.Breaks.Class.{header_kept, type_at, super_at, interface_at, interfaces_at, rows_or_none, members_at, body_at, shown, class_of};
 ghost use Rattle.fcg_reader.specs.Internal.Rows.{text_in, field_in, method_in, view_in};
-ghost use Rattle.fcg_reader.specs.Internal.Class.{rows_said, rows_seen, rows_before, rows_ended, GivesRows};
+ghost use Rattle.fcg_reader.specs.Internal.Class.{rows_if_read, rows_if_any, rows_before, rows_ended, GivesRows};
 
 use crate::attributes::pass_named;
 use crate::bootstrap::{Row, read_rows};
 use crate::fields::read_fields;
 use crate::finish::finish_methods;
 use crate::members::read_methods;
-use crate::names::ClassNames;
+use crate::names::ClassTexts;
 use crate::naming::name_view;
 use crate::number::{read_u2, read_u4};
 use crate::rows::{FieldRow, MethodRow, ViewRows};
@@ -146,7 +146,7 @@ fn read_attribute(
     found: Option<Vec<Row>>,
 ) -> Result<(usize, Option<Vec<Row>>), ReadError<ClassFault>>
     requires { at ≤ length pool.now.bytes }
-    ensures value { (k : ℕ) (read : Option (ℕ × List BootstrapMethod)) → rows_said read ≡ rows_seen found → GivesRows result (one_at (codes "BootstrapMethods") Bootstrap rows_at pool.now k (rows_before at read)) }
+    ensures value { (k : ℕ) (read : Option (ℕ × List BootstrapMethod)) → rows_if_read read ≡ rows_if_any found → GivesRows result (one_at (codes "BootstrapMethods") Bootstrap rows_at pool.now k (rows_before at read)) }
     ensures inside { IfOk result (λ x. x.0 ≤ length pool.now.bytes) }
 {
     let bytes = pool.bytes();
@@ -168,7 +168,7 @@ fn read_attribute(
 
 // The bootstrap methods, or none.
 fn rows_or_none(alloc: Global, found: Option<Vec<Row>>) -> Vec<Row>
-    ensures { (read : Option (ℕ × List BootstrapMethod)) → rows_said read ≡ rows_seen found → result.items ≡ rows_or_none read }
+    ensures { (read : Option (ℕ × List BootstrapMethod)) → rows_if_read read ≡ rows_if_any found → result.items ≡ rows_or_none read }
 {
     match found {
         Some(rows) => rows,
@@ -214,7 +214,7 @@ fn read_attributes(
 #[tactic(auto, unfolding(fcg_classfile::specs::Breaks::Class::members_at))]
 fn read_members(
     alloc: Global,
-    names: &mut ClassNames<'_>,
+    names: &mut ClassTexts<'_>,
     at: usize,
 ) -> Result<(Vec<FieldRow>, Vec<MethodRow>), ReadError<ClassFault>>
     requires { at ≤ length names.old.bytes }
@@ -235,7 +235,7 @@ fn read_members(
 #[tactic(auto, unfolding(fcg_classfile::specs::Breaks::Class::body_at))]
 fn read_body(
     alloc: Global,
-    names: &mut ClassNames<'_>,
+    names: &mut ClassTexts<'_>,
     at: usize,
 ) -> Result<ViewRows, ReadError<ClassFault>>
     requires { at ≤ length names.old.bytes }
@@ -276,7 +276,7 @@ fn read_whole(alloc: Global, bytes: &[u8]) -> Result<Option<NumberedView>, ReadE
 {
     read_header(bytes)?;
     let (pool, after) = read_pool(alloc, bytes, 8)?;
-    let mut names = ClassNames::new(alloc, &pool)?;
+    let mut names = ClassTexts::new(alloc, &pool)?;
     let rows = read_body(alloc, &mut names, after)?;
     Ok(show(alloc, &pool, &rows)?)
 }

@@ -10,7 +10,7 @@ ghost use Rattle.fcg_reader.specs.Internal.Calls.{ArePlaced, found_in};
 
 use crate::attributes::pass_attributes;
 use crate::calls::CodeCalls;
-use crate::names::ClassNames;
+use crate::names::ClassTexts;
 use crate::number::{read_part, read_u2, read_u4};
 use crate::rows::{SiteRow, SiteRows};
 use crate::site::{CodeSpan, push_site_or_call};
@@ -103,7 +103,7 @@ fn read_instruction(code: CodeSpan<'_>, pc: u16) -> Result<Instruction, ClassFau
 // over.
 fn read_found(
     alloc: Global,
-    names: &mut ClassNames<'_>,
+    names: &mut ClassTexts<'_>,
     code: CodeSpan<'_>,
     count: usize,
 ) -> Result<(Vec<SiteRow>, Vec<DynamicCall>), ReadError<ClassFault>>
@@ -155,7 +155,7 @@ fn read_found(
 #[tactic(auto, unfolding(fcg_classfile::specs::Breaks::Code::code_at), using(crate::proofs::SiteLemmas::found_over))]
 pub fn read_code(
     alloc: Global,
-    names: &mut ClassNames<'_>,
+    names: &mut ClassTexts<'_>,
     bytes: &[u8],
     at: usize,
     count: usize,

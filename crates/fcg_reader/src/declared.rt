@@ -5,7 +5,7 @@ ghost use Rattle.fcg_classfile.specs.Breaks.Members.{declared_at};
 ghost use Rattle.fcg_reader.specs.Internal.Names.{is_of_kind};
 ghost use Rattle.fcg_reader.specs.Internal.Members.{declared_of, AreTextsOf};
 
-use crate::names::{ClassNames, DescKind};
+use crate::names::{ClassTexts, DescKind};
 use crate::number::read_u2;
 use crate::text::find_text;
 use fcg_classfile::{ClassFault, ClassRule, fault_at};
@@ -24,7 +24,7 @@ pub struct Declared<'a> {
 /// of its index. Takes constant time, but where a descriptor is needed for the first time: then it is read.
 #[tactic(auto, unfolding(fcg_classfile::specs::Breaks::Members::declared_at))]
 pub fn find_declared<'a>(
-    names: &mut ClassNames<'a>,
+    names: &mut ClassTexts<'a>,
     kind: DescKind,
     at: usize,
 ) -> Result<Declared<'a>, ClassFault>

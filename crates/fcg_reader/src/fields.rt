@@ -9,7 +9,7 @@ ghost use Rattle.fcg_reader.specs.Internal.Members.{declared_of, AreTextsOf};
 
 use crate::attributes::pass_attributes;
 use crate::declared::{Declared, find_declared};
-use crate::names::{ClassNames, DescKind};
+use crate::names::{ClassTexts, DescKind};
 use crate::number::read_u2;
 use crate::rows::FieldRow;
 use fcg_classfile::ClassFault;
@@ -29,7 +29,7 @@ fn row_of(declared: &Declared<'_>) -> FieldRow
 
 // The field that stands at a place, and the place after it.
 #[tactic(auto, unfolding(fcg_classfile::specs::Breaks::Members::field_at))]
-fn read_field(names: &mut ClassNames<'_>, at: usize) -> Result<(FieldRow, usize), ClassFault>
+fn read_field(names: &mut ClassTexts<'_>, at: usize) -> Result<(FieldRow, usize), ClassFault>
     requires { at ≤ length names.old.bytes }
     ensures value { (k : ℕ) → seen (λ x. (field_in names.old x.0, x.1)) result ≡ field_at names.old k at }
     ensures inside { IfOk result (λ x. x.1 ≤ length names.old.bytes) }
@@ -46,7 +46,7 @@ fn read_field(names: &mut ClassNames<'_>, at: usize) -> Result<(FieldRow, usize)
 // So many fields, and the place after them.
 fn read_field_rows(
     alloc: Global,
-    names: &mut ClassNames<'_>,
+    names: &mut ClassTexts<'_>,
     count: u16,
     at: usize,
 ) -> Result<(Vec<FieldRow>, usize), ReadError<ClassFault>>
@@ -76,7 +76,7 @@ fn read_field_rows(
 #[tactic(auto, unfolding(fcg_classfile::specs::Breaks::Members::fields_at))]
 pub fn read_fields(
     alloc: Global,
-    names: &mut ClassNames<'_>,
+    names: &mut ClassTexts<'_>,
     at: usize,
 ) -> Result<(Vec<FieldRow>, usize), ReadError<ClassFault>>
     requires { at ≤ length names.old.bytes }

@@ -12,7 +12,7 @@ ghost use Rattle.fcg_reader.specs.Internal.Handles.{counted, all_joined, is_seco
 use crate::bootstrap::Row;
 use crate::calls::{CodeCalls, Unfinished};
 use crate::handles::Bootstraps;
-use crate::names::ClassNames;
+use crate::names::ClassTexts;
 use crate::rows::{MethodRow, SiteRow, SiteRows};
 use fcg_classfile::ClassFault;
 use fcg_grammar::ReadError;
@@ -59,7 +59,7 @@ fn merge(alloc: Global, own: SiteRows, handles: Vec<SiteRow>) -> Result<SiteRows
 // The handle sites of the calls of a method, where so many sites of the class are before them.
 fn read_calls(
     alloc: Global,
-    names: &mut ClassNames<'_>,
+    names: &mut ClassTexts<'_>,
     bootstraps: &mut Bootstraps<'_>,
     calls: &CodeCalls,
     count: usize,
@@ -84,7 +84,7 @@ fn read_calls(
 #[tactic(auto, unfolding(fcg_classfile::specs::Breaks::Members::finished))]
 fn finish_method(
     alloc: Global,
-    names: &mut ClassNames<'_>,
+    names: &mut ClassTexts<'_>,
     bootstraps: &mut Bootstraps<'_>,
     unfinished: Unfinished,
     count: usize,
@@ -137,7 +137,7 @@ fn count_sites(methods: &[Unfinished]) -> usize
 #[tactic(auto, unfolding(fcg_classfile::specs::Breaks::Members::all_finished))]
 pub fn finish_methods(
     alloc: Global,
-    names: &mut ClassNames<'_>,
+    names: &mut ClassTexts<'_>,
     rows: Vec<Row>,
     methods: Vec<Unfinished>,
 ) -> Result<Vec<MethodRow>, ReadError<ClassFault>>

@@ -4,13 +4,13 @@ ghost use Rattle.fcg_grammar.specs.Reading.{seen, Gives};
 ghost use Rattle.fcg_classfile.specs.Sites.{handle_form};
 ghost use Rattle.fcg_classfile.specs.Breaks.Pool.{Entries};
 ghost use Rattle.fcg_classfile.specs.Breaks.Bootstrap.{index_sites, row_sites, call_sites};
-ghost use Rattle.fcg_reader.specs.Internal.Sites.{form_seen};
+ghost use Rattle.fcg_reader.specs.Internal.Sites.{form_if_any};
 ghost use Rattle.fcg_reader.specs.Internal.Rows.{sites_in};
 ghost use Rattle.fcg_reader.specs.Internal.Handles.{site_list, bootstraps, moved_row, all_moved_at, counted, GivesMore};
 
 use crate::bootstrap::Row;
 use crate::kept::{find_kept, keep, nothing_kept};
-use crate::names::ClassNames;
+use crate::names::ClassTexts;
 use crate::rows::{SiteRow, SiteRows};
 use crate::site::{MOST_SITES, SiteForm, Target, read_site_of};
 use fcg_classfile::{ClassFault, ClassRule, DynamicCall, at_index, fault_at};
@@ -23,7 +23,7 @@ use std::marker::Model;
 // What the sites of a kind of method handles have, or `None` where such a handle calls no method. A Methodref has the
 // tag 10, an InterfaceMethodref 11.
 fn handle_form(kind: u8) -> Option<SiteForm>
-    ensures { form_seen result ≡ handle_form kind }
+    ensures { form_if_any result ≡ handle_form kind }
 {
     let (kind, target) = match kind {
         5 => (HandleKind::K5, Target::Method(&[10])),
@@ -42,7 +42,7 @@ fn handle_form(kind: u8) -> Option<SiteForm>
 // The site of an index of a bootstrap method, or `None` where the constant there is no method handle that calls a
 // method. `count` sites of the class are before it.
 fn read_index_site(
-    names: &mut ClassNames<'_>,
+    names: &mut ClassTexts<'_>,
     at: usize,
     pc: u16,
     index: u16,
@@ -66,7 +66,7 @@ fn read_index_site(
 // Adds the site of an index of a bootstrap method, where it has one. `count` sites of the class are before those of the
 // list.
 fn push_index_site(
-    names: &mut ClassNames<'_>,
+    names: &mut ClassTexts<'_>,
     at: usize,
     pc: u16,
     index: u16,
@@ -90,7 +90,7 @@ fn push_index_site(
 #[tactic(auto, unfolding(fcg_classfile::specs::Breaks::Bootstrap::row_sites))]
 fn read_row_sites(
     alloc: Global,
-    names: &mut ClassNames<'_>,
+    names: &mut ClassTexts<'_>,
     row: &Row,
     at: usize,
     pc: u16,
@@ -187,7 +187,7 @@ impl<'a> Bootstraps<'a> {
     pub fn push_call(
         &mut self,
         alloc: Global,
-        names: &mut ClassNames<'_>,
+        names: &mut ClassTexts<'_>,
         begin: usize,
         call: DynamicCall,
         count: usize,

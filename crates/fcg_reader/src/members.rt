@@ -15,7 +15,7 @@ use crate::calls::{CodeCalls, Unfinished};
 use crate::code::{MethodCode, read_code};
 use crate::declared::{Declared, find_declared};
 use crate::methods::MethodTable;
-use crate::names::{ClassNames, DescKind};
+use crate::names::{ClassTexts, DescKind};
 use crate::number::read_u2;
 use crate::rows::{MethodRow, SiteRows};
 use fcg_classfile::{ClassFault, ClassRule, fault_at};
@@ -26,7 +26,7 @@ use std::alloc::Global;
 // `DoubleCode`.
 fn read_attribute(
     alloc: Global,
-    names: &mut ClassNames<'_>,
+    names: &mut ClassTexts<'_>,
     count: usize,
     at: usize,
     code: Option<MethodCode>,
@@ -60,7 +60,7 @@ fn read_attribute(
 // The place after so many attributes of a method, and its code.
 fn read_attribute_rows(
     alloc: Global,
-    names: &mut ClassNames<'_>,
+    names: &mut ClassTexts<'_>,
     count: usize,
     attributes: u16,
     at: usize,
@@ -86,7 +86,7 @@ fn read_attribute_rows(
 #[tactic(auto, unfolding(fcg_classfile::specs::Breaks::Attributes::ones_at))]
 fn read_attributes(
     alloc: Global,
-    names: &mut ClassNames<'_>,
+    names: &mut ClassTexts<'_>,
     count: usize,
     at: usize,
 ) -> Result<(usize, Option<MethodCode>), ReadError<ClassFault>>
@@ -132,7 +132,7 @@ fn make_method(alloc: Global, declared: &Declared<'_>, code: Option<MethodCode>)
 #[tactic(auto, unfolding(fcg_classfile::specs::Breaks::Members::method_at))]
 fn read_method<'a>(
     alloc: Global,
-    names: &mut ClassNames<'a>,
+    names: &mut ClassTexts<'a>,
     table: &mut MethodTable<'a>,
     at: usize,
 ) -> Result<usize, ReadError<ClassFault>>
@@ -158,7 +158,7 @@ fn read_method<'a>(
 // So many methods, and the place after them.
 fn read_method_rows(
     alloc: Global,
-    names: &mut ClassNames<'_>,
+    names: &mut ClassTexts<'_>,
     count: u16,
     at: usize,
 ) -> Result<(Vec<Unfinished>, usize), ReadError<ClassFault>>
@@ -183,7 +183,7 @@ fn read_method_rows(
 #[tactic(auto, unfolding(fcg_classfile::specs::Breaks::Members::methods_at))]
 pub fn read_methods(
     alloc: Global,
-    names: &mut ClassNames<'_>,
+    names: &mut ClassTexts<'_>,
     at: usize,
 ) -> Result<(Vec<Unfinished>, usize), ReadError<ClassFault>>
     requires { at ≤ length names.old.bytes }

@@ -22,7 +22,7 @@ pub enum DescKind {
 /// The constant pool of a class file, with what was found of it: which texts are field descriptors and which are method
 /// descriptors, and the methods that references name.
 #[derive(Drop)]
-pub struct ClassNames<'a> {
+pub struct ClassTexts<'a> {
     pool: &'a Pool<'a>,
     fields: FoundDescs<'a>,
     methods: FoundDescs<'a>,
@@ -30,7 +30,7 @@ pub struct ClassNames<'a> {
     found: Vec<Option<RefRow>>,
 }
 
-impl<'a> Model for ClassNames<'a> {
+impl<'a> Model for ClassTexts<'a> {
     ghost use Rattle.fcg_classfile.specs.Breaks.Pool.{Entries};
     ghost use Rattle.fcg_reader.specs.Internal.Names.{IsKnown};
 
@@ -41,15 +41,15 @@ impl<'a> Model for ClassNames<'a> {
     ghost invariant = { λ n. IsKnown n.pool.now n.fields n.methods n.found.items };
 }
 
-impl<'a> ClassNames<'a> {
+impl<'a> ClassTexts<'a> {
     /// No descriptor is read and no method is found yet. It takes memory for each index of the pool.
-    pub fn new(alloc: Global, pool: &'a Pool<'a>) -> Result<ClassNames<'a>, AllocError>
+    pub fn new(alloc: Global, pool: &'a Pool<'a>) -> Result<ClassTexts<'a>, AllocError>
         ensures { IfOk result (λ names. names ≡ pool.now) }
     {
         let fields = FoundDescs::new(alloc, pool, DescKind::Field)?;
         let methods = FoundDescs::new(alloc, pool, DescKind::Method)?;
         let found = none_found(alloc, pool.len() + 1)?;
-        Ok(ClassNames {
+        Ok(ClassTexts {
             pool,
             fields,
             methods,

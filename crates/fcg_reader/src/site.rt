@@ -8,13 +8,13 @@ ghost use Rattle.fcg_classfile.specs.Breaks.Fault.{at_place};
 ghost use Rattle.fcg_classfile.specs.Breaks.Pool.{Entries, reference_of};
 ghost use Rattle.fcg_classfile.specs.Breaks.Instructions.{operand_at};
 ghost use Rattle.fcg_classfile.specs.Breaks.Code.{member_of, target_of, site_of, found_at};
-ghost use Rattle.fcg_pool.specs.CodeValues.{AreRefTexts, texts_seen};
+ghost use Rattle.fcg_pool.specs.CodeValues.{AreRefTexts, reference_texts};
 ghost use Rattle.fcg_reader.specs.Internal.Names.{is_of_kind, method_tag};
 ghost use Rattle.fcg_reader.specs.Internal.Calls.{ArePlaced};
 ghost use Rattle.fcg_reader.specs.Internal.Rows.{ref_in, site_in};
-ghost use Rattle.fcg_reader.specs.Internal.Sites.{GivesFound, form_in, form_seen, target_in, ref_of};
+ghost use Rattle.fcg_reader.specs.Internal.Sites.{GivesFound, form_in, form_if_any, target_in, ref_of};
 
-use crate::names::{ClassNames, DescKind};
+use crate::names::{ClassTexts, DescKind};
 use crate::rows::{RefRow, SiteRow};
 use crate::text::find_type_of;
 use fcg_classfile::{ClassFault, ClassRule, DynamicCall, at_index, fault_at};
@@ -52,7 +52,7 @@ pub struct SiteForm {
 
 // What the sites of an opcode have, or `None` where it has none.
 fn form_of(opcode: u8) -> Option<SiteForm>
-    ensures { form_seen result ≡ site_form opcode }
+    ensures { form_if_any result ≡ site_form opcode }
 {
     let (kind, target) = match opcode {
         178 | 179 => (SiteKind::StaticField, Target::Field),
@@ -76,9 +76,9 @@ fn is_dynamic(opcode: u8) -> bool
 // What a reference names, as texts. A fault is at the given place of the file.
 #[inline(always)]
 fn find_texts<'a>(pool: &Pool<'a>, at: usize, index: u16) -> Result<RefTexts<'a>, ClassFault>
-    ensures value { seen texts_seen result ≡ at_place at index (reference_of pool.now index) }
+    ensures value { seen reference_texts result ≡ at_place at index (reference_of pool.now index) }
     ensures named { IfOk result (AreRefTexts pool.now) }
-    ensures found { IfOk result (λ texts. reference_of pool.now index ≡ Ok (texts_seen texts)) }
+    ensures found { IfOk result (λ texts. reference_of pool.now index ≡ Ok (reference_texts texts)) }
 {
     match pool.reference_texts(index) {
         Ok(texts) => Ok(texts),
@@ -91,7 +91,7 @@ fn find_texts<'a>(pool: &Pool<'a>, at: usize, index: u16) -> Result<RefTexts<'a>
 #[inline(always)]
 #[tactic(auto, unfolding(fcg_classfile::specs::Breaks::Code::member_of))]
 fn find_member<'a>(
-    names: &mut ClassNames<'a>,
+    names: &mut ClassTexts<'a>,
     kind: DescKind,
     tags: &[u8],
     at: usize,
@@ -99,7 +99,7 @@ fn find_member<'a>(
 ) -> Result<RefTexts<'a>, ClassFault>
     ensures value { seen ref_of result ≡ member_of names.old (is_of_kind kind) tags.now at index }
     ensures named { IfOk result (AreRefTexts names.old) }
-    ensures found { IfOk result (λ member. reference_of names.old index ≡ Ok (texts_seen member)) }
+    ensures found { IfOk result (λ member. reference_of names.old index ≡ Ok (reference_texts member)) }
     ensures same { names.new ≡ names.old }
 {
     let member = find_texts(names.pool(), at, index)?;
@@ -129,7 +129,7 @@ fn row_of(member: &RefTexts<'_>) -> RefRow
 }
 
 // The field that an index names.
-fn read_field(names: &mut ClassNames<'_>, at: usize, index: u16) -> Result<RefRow, ClassFault>
+fn read_field(names: &mut ClassTexts<'_>, at: usize, index: u16) -> Result<RefRow, ClassFault>
     ensures value { seen (ref_in names.old) result ≡ member_of names.old is_field_descriptor (9 ∷ []) at index }
     ensures same { names.new ≡ names.old }
 {
@@ -151,7 +151,7 @@ fn method_tag(method: &RefRow) -> u8
 
 // The method that an index was found to name before, by a constant of one of these tags.
 #[inline(always)]
-fn find_again(names: &ClassNames<'_>, tags: &[u8], index: u16) -> Option<RefRow>
+fn find_again(names: &ClassTexts<'_>, tags: &[u8], index: u16) -> Option<RefRow>
     ensures { IfSome result (λ row. (at : ℕ) → member_of names.now is_descriptor tags.now at index ≡ Ok (ref_in names.now row)) }
 {
     match names.found_method(index) {
@@ -162,7 +162,7 @@ fn find_again(names: &ClassNames<'_>, tags: &[u8], index: u16) -> Option<RefRow>
 
 // The method that an index names, by a constant of one of these tags, which is looked up once.
 fn read_method(
-    names: &mut ClassNames<'_>,
+    names: &mut ClassTexts<'_>,
     tags: &[u8],
     at: usize,
     index: u16,
@@ -198,7 +198,7 @@ fn read_type_ref(pool: &Pool<'_>, at: usize, index: u16) -> Result<RefRow, Class
 // What a site names by an index. A fault is at the given place of the file.
 #[inline(always)]
 fn read_target(
-    names: &mut ClassNames<'_>,
+    names: &mut ClassTexts<'_>,
     target: Target,
     at: usize,
     index: u16,
@@ -224,7 +224,7 @@ fn read_target(
 #[inline(always)]
 #[tactic(auto, unfolding(fcg_classfile::specs::Breaks::Code::site_of))]
 pub fn read_site_of(
-    names: &mut ClassNames<'_>,
+    names: &mut ClassTexts<'_>,
     form: SiteForm,
     at: usize,
     pc: u16,
@@ -252,7 +252,7 @@ pub fn read_site_of(
 /// names no InvokeDynamic.
 #[tactic(auto, unfolding(fcg_classfile::specs::Breaks::Code::found_at))]
 pub fn push_site_or_call(
-    names: &mut ClassNames<'_>,
+    names: &mut ClassTexts<'_>,
     code: CodeSpan<'_>,
     pc: u16,
     instruction: Instruction,

@@ -29,6 +29,6 @@ command_of (word ∷ folder ∷ []) = if is_word word (codes "pack") && is_argum
 command_of words = None
 
 -- a command as what is asked for
-abbrev pub asked : Command → Asked
-asked (commands.Print listing) = Prints listing
-asked (commands.Pack folder) = Packs folder.now
+abbrev pub asked_by : Command → Asked
+asked_by (commands.Print listing) = Prints listing
+asked_by (commands.Pack folder) = Packs folder.now

@@ -1,7 +1,7 @@
 //! The words of the command line.
 ghost use Rattle.std.specs.Prelude.{◌≡◌, map, string_bytes};
 ghost use Rattle.std.specs.Option.{option_map};
-ghost use Rattle.fcg_top.specs.Words.{asked, command_of, is_argument, listing_named};
+ghost use Rattle.fcg_top.specs.Words.{asked_by, command_of, is_argument, listing_named};
 
 /// What is printed of a bundle.
 #[derive(Clone, Copy, Debug, PartialEq, Eq)]
@@ -23,7 +23,7 @@ pub enum Command<'a> {
 
 // The command that prints a listing of this name.
 fn listing_named<'a>(word: &str) -> Option<Command<'a>>
-    ensures { option_map asked result ≡ listing_named word.now }
+    ensures { option_map asked_by result ≡ listing_named word.now }
 {
     match word {
         "list" => Some(Command::Print(Listing::List)),
@@ -41,7 +41,7 @@ fn is_argument(word: &str) -> bool
 
 /// The command that the words after the program's name give, or `None` for words of no command.
 pub fn parse_words(words: &[String]) -> Option<Command<'_>>
-    ensures { option_map asked result ≡ command_of (map string_bytes words.now) }
+    ensures { option_map asked_by result ≡ command_of (map string_bytes words.now) }
 {
     match words {
         [word] => listing_named(word.as_str()),

@@ -8,7 +8,7 @@ use Rattle.fcg_views.specs.declared.view.Site.{Site}
 use Rattle.fcg_classfile.specs.declared.fault.ClassFault.{ClassFault}
 use Rattle.fcg_classfile.specs.declared.fault.ClassRule.TheVariants.{Bootstrap, Trailing}
 use Rattle.fcg_classfile.specs.ClassFile.{Constant, Utf8, Plain, Named, Pair, Handle, BootstrapMethod}
-use Rattle.fcg_classfile.specs.Sites.{SiteForm, handle_form, joined}
+use Rattle.fcg_classfile.specs.Sites.{SiteForm, handle_form, concat_sites}
 use Rattle.fcg_classfile.specs.Breaks.Fault.{fault, at_place}
 use Rattle.fcg_classfile.specs.Breaks.Number.{u2_at}
 use Rattle.fcg_classfile.specs.Breaks.Pool.{Entries, constant_of, handle_in}
@@ -60,7 +60,7 @@ module _ (pool : Entries) (at pc : ℕ) where
   row_sites b count = do
     handle ← at_place at b.handle (constant_of pool b.handle >>= handle_in)
     read ← carried index_sites (b.handle ∷ b.arguments) count
-    Ok (joined read.0, read.1)
+    Ok (concat_sites read.0, read.1)
 
 abbrev pub row_of : ℕ → Option BootstrapMethod → Result BootstrapMethod ClassFault
 row_of at None = Err (fault at 0 Bootstrap)

@@ -11,7 +11,7 @@ use Rattle.fcg_classfile.specs.declared.fault.ClassFault.{ClassFault}
 use Rattle.fcg_classfile.specs.declared.fault.ClassRule.TheVariants.{Descriptor, EmptyName, DoubleMethod, DoubleCode}
 use Rattle.fcg_views.specs.DescriptorSteps.{is_descriptor, is_field_descriptor}
 use Rattle.fcg_classfile.specs.ClassFile.{BootstrapMethod}
-use Rattle.fcg_classfile.specs.Sites.{Found, joined, merged}
+use Rattle.fcg_classfile.specs.Sites.{Found, concat_sites, merged}
 use Rattle.fcg_views.specs.Valid.{site_count, is_alike}
 use Rattle.fcg_classfile.specs.Breaks.Fault.{fault}
 use Rattle.fcg_classfile.specs.Breaks.Number.{u2_at}
@@ -102,7 +102,7 @@ with_sites m sites = record { name = m.name; desc = m.desc; flags = m.flags; sit
 unfoldable pub finished : Entries → List BootstrapMethod → Unfinished → ℕ → Result (Method × ℕ) ClassFault
 finished pool bootstrap m count = do
   handles ← carried (call_sites pool bootstrap m.1.begin) m.1.calls count
-  Ok (with_sites m.0 (merged m.0.sites (joined handles.0)), handles.1)
+  Ok (with_sites m.0 (merged m.0.sites (concat_sites handles.0)), handles.1)
 
 -- The sites of all instructions are before the handle sites.
 unfoldable pub all_finished : Entries → List BootstrapMethod → List Unfinished → Result (List Method) ClassFault

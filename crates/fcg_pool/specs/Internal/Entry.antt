@@ -10,20 +10,20 @@ use Rattle.fcg_pool.specs.declared.constant.Shape.TheVariants as shapes
 use Rattle.fcg_pool.specs.declared.constant.Entry.{Entry}
 use Rattle.fcg_pool.specs.declared.constant.Entry.TheVariants.{Utf8, Plain, Named, Pair, Handle}
 
-abbrev pub shape_seen : Option Shape → Option file.Shape
-shape_seen None = None
-shape_seen (Some shapes.Text) = Some file.Text
-shape_seen (Some (shapes.Bytes n)) = Some (file.Bytes n)
-shape_seen (Some shapes.One) = Some file.One
-shape_seen (Some shapes.Two) = Some file.Two
-shape_seen (Some shapes.Kinded) = Some file.Kinded
+abbrev pub shape_if_any : Option Shape → Option file.Shape
+shape_if_any None = None
+shape_if_any (Some shapes.Text) = Some file.Text
+shape_if_any (Some (shapes.Bytes n)) = Some (file.Bytes n)
+shape_if_any (Some shapes.One) = Some file.One
+shape_if_any (Some shapes.Two) = Some file.Two
+shape_if_any (Some shapes.Kinded) = Some file.Kinded
 
-abbrev pub constant_seen : Entry → Constant
-constant_seen (Utf8 text) = file.Utf8 text.now
-constant_seen (Plain tag bytes) = file.Plain tag bytes.now
-constant_seen (Named tag i) = file.Named tag i
-constant_seen (Pair tag i j) = file.Pair tag i j
-constant_seen (Handle kind i) = file.Handle kind i
+abbrev pub entry_constant : Entry → Constant
+entry_constant (Utf8 text) = file.Utf8 text.now
+entry_constant (Plain tag bytes) = file.Plain tag bytes.now
+entry_constant (Named tag i) = file.Named tag i
+entry_constant (Pair tag i j) = file.Pair tag i j
+entry_constant (Handle kind i) = file.Handle kind i
 
 abbrev pub indexes_of : Indexes → pool.Indexes
 indexes_of x = record { tag = x.tag; first = x.first; second = x.second }

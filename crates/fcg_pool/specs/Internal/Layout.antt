@@ -10,9 +10,9 @@ form_in layouts.Table = Table
 form_in layouts.Lookup = Lookup
 form_in layouts.Wide = Wide
 
-abbrev pub form_seen : Option Layout → Option Form
-form_seen None = None
-form_seen (Some layout) = Some (form_in layout)
+abbrev pub form_if_any : Option Layout → Option Form
+form_if_any None = None
+form_if_any (Some layout) = Some (form_in layout)
 
 -- how many bytes follow the opcode at least
 abbrev pub least_after : Layout → ℕ

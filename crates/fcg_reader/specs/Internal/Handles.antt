@@ -8,7 +8,7 @@ use Rattle.fcg_views.specs.declared.view.Site.{Site}
 use Rattle.fcg_classfile.specs.declared.fault.ClassFault.{ClassFault}
 use Rattle.fcg_classfile.specs.declared.fault.ClassRule.TheVariants.{ManySites}
 use Rattle.fcg_classfile.specs.ClassFile.{BootstrapMethod}
-use Rattle.fcg_classfile.specs.Sites.{joined}
+use Rattle.fcg_classfile.specs.Sites.{concat_sites}
 use Rattle.fcg_classfile.specs.Breaks.Fault.{fault}
 use Rattle.fcg_classfile.specs.Breaks.Pool.{Entries}
 use Rattle.fcg_classfile.specs.Breaks.Bootstrap.{row_sites}
@@ -56,7 +56,7 @@ counted pool count sites = (sites_in pool sites, count + length sites)
 
 -- what each of a list gives, as one list
 abbrev pub all_joined : Result (List (List Site) × ℕ) ClassFault → Result (List Site × ℕ) ClassFault
-all_joined read = read >>= λ x. Ok (joined x.0, x.1)
+all_joined read = read >>= λ x. Ok (concat_sites x.0, x.1)
 
 -- Sites more in a list, where so many sites of the class are before the list; or the fault.
 abbrev pub GivesMore : Entries → Result (Unit {0}) (ReadError ClassFault) → ℕ → List SiteRow → List SiteRow → Result (List Site × ℕ) ClassFault → Type 0

@@ -30,9 +30,9 @@ target_in «Type» = sites.ToType
 abbrev pub form_in : SiteForm → sites.SiteForm
 form_in form = record { kind = form.kind; target = target_in form.target }
 
-abbrev pub form_seen : Option SiteForm → Option sites.SiteForm
-form_seen None = None
-form_seen (Some form) = Some (form_in form)
+abbrev pub form_if_any : Option SiteForm → Option sites.SiteForm
+form_if_any None = None
+form_if_any (Some form) = Some (form_in form)
 
 -- the member that a reference of the pool names
 abbrev pub ref_of : RefTexts → Ref

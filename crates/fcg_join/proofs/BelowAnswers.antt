@@ -19,19 +19,25 @@ use Rattle.fcg_join.specs.declared.tables.TypeTables.{TypeTables}
 use Rattle.fcg_join.specs.declared.part_names.NamePlace.{NamePlace}
 use Rattle.fcg_join.specs.Names.{text_at}
 use Rattle.fcg_join.specs.Parts.{placed, types_of}
-use Rattle.fcg_join.specs.Internal.PartNames.{set_names, name_there}
+use Rattle.fcg_join.specs.SetNames.{set_names}
+use Rattle.fcg_join.specs.Internal.PartNames.{name_there}
 use Rattle.fcg_join.specs.TypeLinks.{HasTypeAt}
 use Rattle.fcg_join.specs.Internal.TypeNumbers.{class_numbered}
 use Rattle.fcg_join.specs.Joined.{IsTypeNumber}
 use Rattle.fcg_join.specs.Internal.Tables.{IsJoined}
-use Rattle.fcg_join.specs.Internal.Mentions.{row_of}
-use Rattle.fcg_join.specs.Internal.Below.{is_in_line, AreSuperclasses, IsNameNumber, HaveNumbers}
+use Rattle.std.specs.List.{range_with_len}
+use Rattle.std.proofs.lemmas.List.FromFn.{length-range_with_len, get_or-range_with_len}
+use Rattle.fcg_order.specs.Links.{row}
+use Rattle.fcg_join.proofs.PlacedTypes.{has_interval}
+use Rattle.fcg_join.proofs.BelowLists.{object_listed, unmentioned_listed}
+use Rattle.fcg_join.specs.Internal.Mentions.{row_of, AreSorted}
+use Rattle.fcg_join.specs.Internal.Below.{is_under, interval, HasInterval, IsNameNumber, AreBelow}
 use Rattle.fcg_join.proofs.Places.{has_in}
 use Rattle.fcg_join.proofs.JoinLaws.{many_names}
 use Rattle.fcg_join.proofs.TableAnswers.{superclasses_many, superclass_there}
 use Rattle.fcg_join.proofs.OwnMentions.{known_are_acyclic, names_are_had}
 use Rattle.fcg_join.proofs.MentionRows.{below_unmentioned}
-use Rattle.fcg_join.proofs.BelowNumbers.{same_back, below_class_number, below_row_number}
+use Rattle.fcg_join.proofs.BelowNumbers.{same_back, class_has_interval, below_class_number, listed_class_number, listed_row_number, below_row_number}
 
 pub below_object_name : (types : List Placed) (t : Placed) (n : List ℕ) → same object_name n ≡ true → true ≡ is_below types t n
 below_object_name types t n e = sym (below_object types t) ∙ ap (is_below types t) ((bytes_decides object_name n).0 e)
@@ -54,22 +60,6 @@ number_below names n (Some k) h = slice_get_within names k n h
 
 -- ---- lists of numbers
 
--- one type more
-pub listed_next : (types : List Placed) (p : Placed → Bool) (x : ℕ) (t : Placed) → HasTypeAt types x t → (b : Bool) → b ≡ p t → (old new : List ℕ) → new ≡ old ++ cond b (x ∷ []) []
-    → HaveNumbers types old (filter p (take x types)) → HaveNumbers types new (filter p (take (x + 1) types))
-listed_next types p x t h b q old new e s =
-    ap (map (slice_get types)) e ∙ map-append (slice_get types) old (cond b (x ∷ []) [])
-    ∙ ap (λ os. os ++ map (slice_get types) (cond b (x ∷ []) [])) s
-    ∙ ap (λ os. map Some (filter p (take x types)) ++ os) (at b ∙ ap (λ c. map Some (cond c (t ∷ []) [])) q)
-    ∙ sym (ap (λ ts. map Some (filter p ts)) more ∙ ap (map Some) (filter-append p (take x types) (t ∷ [])) ∙ map-append Some (filter p (take x types)) (filter p (t ∷ [])))
-  where
-    more : take (x + 1) types ≡ take x types ++ t ∷ []
-    more = take_more types x t (slice_get_within types x t h) ∙ ap (λ u. take x types ++ u ∷ []) (get_or_from_slice_get types x t t h)
-
-    at : (c : Bool) → map (slice_get types) (cond c (x ∷ []) []) ≡ map Some (cond c (t ∷ []) [])
-    at true = ap (λ o. o ∷ []) h
-    at false = refl
-
 pub ids_within : (count : ℕ) (ids : List TypeId) (numbers : List ℕ) → map (λ id. id.0) ids ≡ numbers → All (λ n. n < count) numbers → All (λ (id : TypeId). id.0 < count) ids
 ids_within count ids numbers e h k d l =
     let m : length numbers ≡ length ids = sym (ap (λ ns. length ns) e) ∙ length-map ids (λ id. id.0) in
@@ -77,39 +67,9 @@ ids_within count ids numbers e h k d l =
     let a = h k 0 (omega arith) in
     omega arith
 
-pub within_next : (count x : ℕ) → x < count → (b : Bool) (old new : List ℕ) → new ≡ old ++ cond b (x ∷ []) [] → All (λ n. n < count) old → All (λ n. n < count) new
-within_next count x l b old new e h = subst (λ (ns : List ℕ). All (λ n. n < count) ns) (sym e) (at b)
-  where
-    at : (c : Bool) → All (λ n. n < count) (old ++ cond c (x ∷ []) [])
-    at true = All-append (λ n. n < count) old (x ∷ []) h (λ k d m. one k d m)
-      where
-        one : (k d : ℕ) → k < length (x ∷ []) → get_or (x ∷ []) k d < count
-        one zero d m = l
-        one (suc k) d m = absurd (omega arith)
-    at false = subst (λ (ns : List ℕ). All (λ n. n < count) ns) (sym (append-nil old)) h
-
 module _ (parts : List PartShown) (t : TypeTables) (j : IsJoined parts t) where
   abbrev N : List (List ℕ)
   N = set_names parts
-
-  abbrev supers : List (Option ℕ)
-  supers = t.superclasses.items
-
-  -- ---- superclasses
-  supers_are : AreSuperclasses (types_of parts) supers
-  supers_are x u h = superclass_there parts t j x u h
-
-  pub supers_within : (y z : ℕ) → get_or supers y None ≡ Some z → z < length supers
-  supers_within y z e = elim (cases_lt y (length supers)) [
-    | inl l ↦ (let m = superclasses_many parts t j in
-        let u = some_at (types_of parts) y (omega arith) in
-        at (superclass (types_of parts) u.0) (subst (λ (o : Option ℕ). IsTypeNumber (types_of parts) o (superclass (types_of parts) u.0)) e (superclass_there parts t j y u.0 u.1)))
-    | inr g ↦ (let past : None ≡ Some z = sym (get_or_past supers y None g) ∙ e in absurd cc)
-  ]
-    where
-      at : (r : Option Placed) → IsTypeNumber (types_of parts) (Some z) r → z < length supers
-      at None h = absurd h
-      at (Some v) h = (let a = slice_get_within (types_of parts) z v h in let m = superclasses_many parts t j in omega arith)
 
   -- ---- names
   pub places_many : length t.names.places.items ≡ length N
@@ -134,11 +94,10 @@ module _ (parts : List PartShown) (t : TypeTables) (j : IsJoined parts t) where
   -- ---- at or below a name
   module _ (y : ℕ) (x : Placed) (h : HasTypeAt (types_of parts) y x) where
     module _ (n : ℕ) (small : n < length N) (other : same object_name (text_at N n) ≡ false) where
-      pub below_class_there : (z : ℕ) → class_numbered t.heads.items t.linked.by_name.items n ≡ Some z → is_in_line supers z (length supers) (Some y) ≡ is_below (types_of parts) x (text_at N n)
+      pub below_class_there : (z : ℕ) → class_numbered t.heads.items t.linked.by_name.items n ≡ Some z → is_under t.inherited.places z y ≡ is_below (types_of parts) x (text_at N n)
       below_class_there z e =
-          ap (λ k. is_in_line supers z k (Some y)) (superclasses_many parts t j)
-          ∙ sym (below_class_number parts t.heads.items (types_of parts) t.linked.by_name.items j.heads (known_distinct (placed parts)) j.by_name n small (same_back object_name (text_at N n) other)
-          (known_are_acyclic (placed parts)) supers supers_are z e y x h)
+          sym (below_class_number parts t.heads.items (types_of parts) t.linked.by_name.items j.heads (known_distinct (placed parts)) j.by_name n small (same_back object_name (text_at N n) other)
+          (known_are_acyclic (placed parts)) t.inherited.places j.inherited'.places' z e y x h)
 
       pub below_row_there : class_numbered t.heads.items t.linked.by_name.items n ≡ None → list_any (λ k. k == n) (row_of t.inherited.mentions y) ≡ is_below (types_of parts) x (text_at N n)
       below_row_there e =
@@ -149,3 +108,39 @@ module _ (parts : List PartShown) (t : TypeTables) (j : IsJoined parts t) where
     below_absent n a other =
         sym (below_unmentioned N (types_of parts) (names_are_had parts t.heads.items (types_of parts) t.linked.by_name.items j.heads (known_distinct (placed parts)) j.by_name) n a x (has_in (types_of parts) y x h)
         ∙ same_back object_name n other)
+
+  pub entered_there : (x : ℕ) → x < length (types_of parts) → x < length t.inherited.places.enter.items
+  entered_there x l = (has_interval (types_of parts) t.inherited.places j.inherited'.places' x l).entered
+
+  -- ---- what is at or below a name
+  module _ (n : ℕ) (small : n < length N) (other : same object_name (text_at N n) ≡ false) where
+    pub interval_there : (z : ℕ) → class_numbered t.heads.items t.linked.by_name.items n ≡ Some z → HasInterval t.inherited.places z
+    interval_there z e =
+        class_has_interval parts t.heads.items (types_of parts) t.linked.by_name.items j.heads (known_distinct (placed parts)) j.by_name n small (same_back object_name (text_at N n) other)
+        (known_are_acyclic (placed parts)) t.inherited.places j.inherited'.places' z e
+
+    pub listed_class_there : (z : ℕ) → class_numbered t.heads.items t.linked.by_name.items n ≡ Some z → (numbers : List ℕ) → AreSorted (interval t.inherited.places z) numbers → AreBelow (types_of parts) (text_at N n) numbers
+    listed_class_there z e =
+        listed_class_number parts t.heads.items (types_of parts) t.linked.by_name.items j.heads (known_distinct (placed parts)) j.by_name n small (same_back object_name (text_at N n) other)
+        (known_are_acyclic (placed parts)) t.inherited.places j.inherited'.places' z e
+
+    pub listed_row_there : class_numbered t.heads.items t.linked.by_name.items n ≡ None → AreBelow (types_of parts) (text_at N n) (row t.inherited.mentioned n)
+    listed_row_there e =
+        listed_row_number parts t.heads.items (types_of parts) t.linked.by_name.items j.heads (known_distinct (placed parts)) j.by_name n small (same_back object_name (text_at N n) other)
+        e t.inherited.mentions t.inherited.mentioned j.inherited'.mentions'.long j.inherited'.mentions'.upward j.inherited'.mentioned'
+
+pub object_below : (types : List Placed) (n : List ℕ) → same object_name n ≡ true → (numbers : List ℕ) → numbers ≡ range_with_len 0 (length types) → AreBelow types n numbers
+object_below types n e numbers q = subst (λ (m : List ℕ). AreBelow types m numbers) ((bytes_decides object_name n).0 e) (record {
+  listed = ap (map (slice_get types)) q ∙ object_listed types;
+  range = λ k d l. (let m = length-range_with_len 0 (length types) in
+      let w = ap (λ xs. length xs) q in
+      let v : get_or numbers k d ≡ 0 + k = ap (λ xs. get_or xs k d) q ∙ get_or-range_with_len 0 (length types) k d (omega (arith, l, m, w)) in
+      omega (arith, l, m, w, v));
+})
+
+pub none_below : (parts : List PartShown) (t : TypeTables) → IsJoined parts t → (n : List ℕ) → (Contains (set_names parts) n → ⊥) → same object_name n ≡ false → (numbers : List ℕ) → numbers ≡ [] → AreBelow (types_of parts) n numbers
+none_below parts t j n a other numbers q = record {
+  listed = ap (map (slice_get (types_of parts))) q
+      ∙ ap (map Some) (sym (unmentioned_listed (set_names parts) (types_of parts) (names_are_had parts t.heads.items (types_of parts) t.linked.by_name.items j.heads (known_distinct (placed parts)) j.by_name) n a (same_back object_name n other)));
+  range = λ k d l. absurd (let w = ap (λ xs. length xs) q in omega (arith, l, w));
+}

@@ -1,4 +1,4 @@
--- Types at or below a class, by the numbers of superclasses.
+-- A number in a sorted row.
 use Rattle.std.proofs.Common.{◌≡◌, ℕ, zero, suc, ◌+◌, ◌-◌, ◌<◌, ◌≤◌, List, [], ◌∷◌, length, eqb, get_or, refl, sym, ap, ◌∙◌, inl, inr, cond, arith}
 use Rattle.std.specs.Prelude.{Bool, true, false, not, ◌&&◌, ◌||◌, Option, Some, None, filter, option_to_list, MatchResult, Result, Ok, Err, is_ok}
 use Rattle.std.specs.List.{IsDistinct, list_any}
@@ -18,7 +18,6 @@ use Rattle.fcg_analysis.proofs.General.Members.{find_in, and_first}
 use Rattle.fcg_analysis.proofs.BelowChains.{below_class}
 use Rattle.fcg_join.specs.TypeLinks.{HasTypeAt}
 use Rattle.fcg_join.specs.Joined.{IsTypeNumber}
-use Rattle.fcg_join.specs.Internal.Below.{is_in_line, AreSuperclasses}
 use Rattle.fcg_join.proofs.Places.{has_in}
 use Rattle.fcg_join.proofs.GapLaws.{any_append}
 use Rattle.fcg_join.proofs.MentionRows.{same_number, any_number}
@@ -44,70 +43,3 @@ found_in_row numbers n r up h = at r (searched numbers n r h rising)
           | inl l ↦ (let a = m.1 c.0 l in absurd (omega arith))
           | inr g ↦ (let a = m.2 c.0 g c.1 in absurd (omega arith))
         ])))
-
--- ---- a line of superclasses
-
--- one step of a walk along the line
-pub line_next : (superclasses : List (Option ℕ)) (y n i x z : ℕ) → i < n → eqb y x ≡ false → get_or superclasses x None ≡ Some z
-    → is_in_line superclasses y (n - i) (Some x) ≡ is_in_line superclasses y (n - (i + 1)) (Some z)
-line_next superclasses y n i x z l e s =
-    let step : n - i ≡ suc (n - (i + 1)) = omega arith in
-    ap (λ k. is_in_line superclasses y k (Some x)) step
-    ∙ ap (λ b. b || is_in_line superclasses y (n - (i + 1)) (get_or superclasses x None)) e
-    ∙ ap (is_in_line superclasses y (n - (i + 1))) s
-
-pub line_ends : (superclasses : List (Option ℕ)) (y n i x : ℕ) → i < n → eqb y x ≡ false → get_or superclasses x None ≡ None → is_in_line superclasses y (n - i) (Some x) ≡ false
-line_ends superclasses y n i x l e s =
-    let step : n - i ≡ suc (n - (i + 1)) = omega arith in
-    ap (λ k. is_in_line superclasses y k (Some x)) step
-    ∙ ap (λ b. b || is_in_line superclasses y (n - (i + 1)) (get_or superclasses x None)) e
-    ∙ ap (is_in_line superclasses y (n - (i + 1))) s
-
-pub line_has : (superclasses : List (Option ℕ)) (y n i x : ℕ) → i < n → eqb y x ≡ true → is_in_line superclasses y (n - i) (Some x) ≡ true
-line_has superclasses y n i x l e =
-    let step : n - i ≡ suc (n - (i + 1)) = omega arith in
-    ap (λ k. is_in_line superclasses y k (Some x)) step
-    ∙ ap (λ b. b || is_in_line superclasses y (n - (i + 1)) (get_or superclasses x None)) e
-
-pub line_past : (superclasses : List (Option ℕ)) (y n i x : ℕ) → n ≤ i → is_in_line superclasses y (n - i) (Some x) ≡ false
-line_past superclasses y n i x l = (let none : n - i ≡ 0 = omega arith in ap (λ k. is_in_line superclasses y k (Some x)) none)
-
-module _ (types : List Placed) (d : IsDistinct is_type types) (superclasses : List (Option ℕ)) (are : AreSuperclasses types superclasses) (y : ℕ) (u : Placed) (there : HasTypeAt types y u) where
-  -- the line by numbers is that of the types
-  line_by_numbers : (n x : ℕ) (t : Placed) → HasTypeAt types x t → is_in_line superclasses y n (Some x) ≡ list_any (is_type u) (superclass_line n types (Some t))
-  line_by_numbers zero x t h = refl
-  line_by_numbers (suc n) x t h =
-      ap (λ b. b || is_in_line superclasses y n (get_or superclasses x None)) (sym (same_number types d y x u t there h))
-      ∙ ap (λ b. is_type u t || b) (at (line_by_numbers n) (get_or superclasses x None) (superclass types t) (are x t h))
-    where
-      at : ((z : ℕ) (v : Placed) → HasTypeAt types z v → is_in_line superclasses y n (Some z) ≡ list_any (is_type u) (superclass_line n types (Some v)))
-          → (o : Option ℕ) (r : Option Placed) → IsTypeNumber types o r → is_in_line superclasses y n o ≡ list_any (is_type u) (superclass_line n types r)
-      at next None None k = refl
-      at next None (Some v) k = absurd k
-      at next (Some z) None k = absurd k
-      at next (Some z) (Some v) k = next z v k
-
-  module _ (acyclic : IsAcyclic types) (class' : is_class u ≡ true) (other : same u.view.name object_name ≡ false) where
-    -- Object isn't the class
-    no_object : (p : Placed → Bool) (r : Option Placed) → object types ≡ r → list_any (is_type u) (filter p (option_to_list r)) ≡ false
-    no_object p None e = refl
-    no_object p (Some o) e = at (p o)
-      where
-        name : object_name ≡ o.view.name
-        name = (bytes_decides object_name o.view.name).0 (and_first (is_object o) (is_class o) (find_in (λ t. is_object t && is_class t) types o e).1)
-
-        off : is_type u o ≡ false
-        off = ap (same u.view.name) (sym name) ∙ other
-
-        at : (b : Bool) → list_any (is_type u) (cond b (o ∷ []) []) ≡ false
-        at true = ap (λ b. b || false) off
-        at false = refl
-
-    pub below_by_line : (x : ℕ) (t : Placed) → HasTypeAt types x t → is_below types t u.view.name ≡ is_in_line superclasses y (length types) (Some x)
-    unfolding chain line
-    below_by_line x t h =
-        below_class types acyclic d u (has_in types y u there) class' other t (has_in types x t h)
-        ∙ any_append (is_type u) (line types t) (filter (λ o. is_class t && not (list_any (is_type o) (line types t))) (option_to_list (object types)))
-        ∙ ap (λ b. list_any (is_type u) (line types t) || b) (no_object (λ o. is_class t && not (list_any (is_type o) (line types t))) (object types) refl)
-        ∙ or-false (list_any (is_type u) (line types t))
-        ∙ sym (line_by_numbers (length types) x t h)

@@ -18,7 +18,7 @@ use Rattle.fcg_analysis.specs.Laws.ByName.{links_to}
 use Rattle.fcg_analysis.proofs.General.Members.{IsIn, IsIn-from_Contains, Contains-from_IsIn, any_in, find_in}
 use Rattle.fcg_analysis.proofs.NameLaws.{find_type, unlinked_by_name}
 use Rattle.fcg_join.specs.declared.heads.TypeHead.{TypeHead}
-use Rattle.fcg_join.specs.Internal.PartNames.{set_names}
+use Rattle.fcg_join.specs.SetNames.{set_names}
 use Rattle.fcg_join.specs.Internal.TypeHeads.{IsHead}
 use Rattle.fcg_join.specs.TypeLinks.{HasTypeAt}
 use Rattle.fcg_join.specs.Internal.TypeNumbers.{AreHeads, FindsHeads, type_numbered}

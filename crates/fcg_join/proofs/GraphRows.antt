@@ -17,7 +17,7 @@ use Rattle.fcg_analysis.specs.NamesAndFlags.{same, has}
 use Rattle.fcg_analysis.specs.Declarations.{object_name}
 use Rattle.fcg_join.specs.declared.heads.TypeHead.{TypeHead}
 use Rattle.fcg_join.specs.Parts.{placed_view}
-use Rattle.fcg_join.specs.Internal.PartNames.{part_names}
+use Rattle.fcg_join.specs.SetNames.{part_names}
 use Rattle.fcg_join.specs.Internal.PartRows.{HasView, row_of_view}
 use Rattle.fcg_join.specs.Internal.TypeHeads.{head_of}
 

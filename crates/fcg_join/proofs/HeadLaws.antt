@@ -17,7 +17,8 @@ use Rattle.fcg_analysis.specs.Types.{winners}
 use Rattle.fcg_analysis.proofs.General.Members.{IsIn}
 use Rattle.fcg_join.specs.declared.heads.TypeHead.{TypeHead}
 use Rattle.fcg_join.specs.Parts.{placed_view, placed_of, placed}
-use Rattle.fcg_join.specs.Internal.PartNames.{part_names, all_names, set_names, names_by_number}
+use Rattle.fcg_join.specs.SetNames.{part_names, all_names, set_names}
+use Rattle.fcg_join.specs.Internal.PartNames.{names_by_number}
 use Rattle.fcg_join.specs.Internal.PartRows.{HasView}
 use Rattle.fcg_join.specs.Internal.TypeHeads.{head_of, heads_in, heads_of, IsHead, used_superclass}
 use Rattle.fcg_join.specs.Internal.TypeNumbers.{AreHeads, FindsFirst, FindsHeads, head_at}

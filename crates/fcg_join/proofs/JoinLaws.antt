@@ -14,7 +14,8 @@ use Rattle.fcg_analysis.specs.Types.{winners, winners_after, known, is_circular}
 use Rattle.fcg_analysis.proofs.General.Members.{length-filter_all}
 use Rattle.fcg_join.specs.declared.part_names.SetNames.{SetNames}
 use Rattle.fcg_join.specs.Parts.{placed_view, placed_of, placed}
-use Rattle.fcg_join.specs.Internal.PartNames.{part_names, all_names, set_names, name_there, AreSetNames}
+use Rattle.fcg_join.specs.SetNames.{part_names, all_names, set_names}
+use Rattle.fcg_join.specs.Internal.PartNames.{name_there, AreSetNames}
 use Rattle.fcg_join.proofs.GraphRows.{types_many}
 
 winners_short : (earlier later : List Placed) → length (winners_after earlier later) ≤ length later
@@ -70,7 +71,7 @@ put_long x (y ∷ ys) =
     let r = put_long x ys in
     elim (order x y) as (λ o. length (by o (x ∷ y ∷ ys) (y ∷ ys) (y ∷ put x ys)) ≤ length (y ∷ ys) + 1) [ Less ↦ omega arith | Equal ↦ omega arith | Greater ↦ omega arith ]
 
-table_long : (xs : List (List ℕ)) → length (table xs) ≤ length xs
+pub table_long : (xs : List (List ℕ)) → length (table xs) ≤ length xs
 unfolding table
 table_long [] = omega arith
 table_long (x ∷ xs) = (let a = put_long x (table xs) in let b = table_long xs in omega arith)

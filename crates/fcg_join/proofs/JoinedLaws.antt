@@ -18,7 +18,7 @@ use Rattle.fcg_analysis.proofs.General.Finding.{find_only}
 use Rattle.fcg_analysis.proofs.ChainLaws.{chain_goes_on}
 use Rattle.fcg_analysis.proofs.OverrideLaws.{one_of_name}
 use Rattle.fcg_join.specs.declared.heads.TypeHead.{TypeHead}
-use Rattle.fcg_join.specs.Internal.PartNames.{all_names, set_names}
+use Rattle.fcg_join.specs.SetNames.{all_names, set_names}
 use Rattle.fcg_join.specs.Internal.TypeHeads.{IsHead, no_head, used_superclass}
 use Rattle.fcg_join.specs.TypeLinks.{HasTypeAt}
 use Rattle.fcg_join.specs.Internal.TypeNumbers.{AreHeads, FindsHeads, head_at, superclass_numbered}

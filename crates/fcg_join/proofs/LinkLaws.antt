@@ -17,7 +17,7 @@ use Rattle.fcg_analysis.proofs.General.Members.{IsIn, IsIn-from_Contains, Contai
 use Rattle.fcg_analysis.proofs.OverrideLaws.{one_of_name}
 use Rattle.fcg_order.specs.Links.{HasLink}
 use Rattle.fcg_join.specs.declared.heads.TypeHead.{TypeHead}
-use Rattle.fcg_join.specs.Internal.PartNames.{set_names}
+use Rattle.fcg_join.specs.SetNames.{set_names}
 use Rattle.fcg_join.specs.Internal.TypeHeads.{IsHead, no_head, used_superclass}
 use Rattle.fcg_join.specs.TypeLinks.{HasTypeAt, HasLinks}
 use Rattle.fcg_join.specs.Internal.TypeNumbers.{AreHeads, FindsHeads, head_at, type_numbered, class_numbered, interface_numbered, superclass_numbered, interfaces_numbered, links_numbered}

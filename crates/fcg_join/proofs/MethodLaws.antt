@@ -16,7 +16,7 @@ use Rattle.fcg_join.specs.declared.heads.TypeHead.{TypeHead}
 use Rattle.fcg_join.specs.Parts.{placed_view, placed, views_before, types_of, nodes_of}
 use Rattle.fcg_join.specs.Winners.{name_number, first_marks, marked}
 use Rattle.fcg_join.specs.Internal.Collected.{collected}
-use Rattle.fcg_join.specs.Internal.PartNames.{set_names}
+use Rattle.fcg_join.specs.SetNames.{set_names}
 use Rattle.fcg_join.specs.Internal.TypeHeads.{head_of, heads_in, heads_of, IsHead, IsFirstHead}
 use Rattle.fcg_join.specs.Internal.TypeNumbers.{AreHeads}
 use Rattle.fcg_join.proofs.HeadLaws.{all_heads, all_named, names_are}

@@ -12,7 +12,7 @@ use Rattle.fcg_partial.specs.Views.{graph_of, refs_of, type_row, method_row, sit
 use Rattle.fcg_partial.specs.Accessors.{HasMethod, row_of_method, type_in, no_type}
 use Rattle.fcg_partial.specs.declared.row.MethodRow.{MethodRow}
 use Rattle.fcg_partial.specs.Parts.{PartShown}
-use Rattle.fcg_join.specs.Internal.PartNames.{part_names}
+use Rattle.fcg_join.specs.SetNames.{part_names}
 use Rattle.fcg_join.specs.declared.methods.MethodPlace.{MethodPlace}
 use Rattle.fcg_join.specs.Internal.MethodRows.{HasOwnMethod, row_of_own, IsMethodPlace}
 use Rattle.fcg_join.proofs.GraphRows.{among_item, type_there, named, name_back}

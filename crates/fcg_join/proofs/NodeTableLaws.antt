@@ -13,7 +13,7 @@ use Rattle.fcg_analysis.specs.Laws.Methods.{method_total}
 use Rattle.fcg_analysis.proofs.NodePlaces.{count_is}
 use Rattle.fcg_join.specs.declared.heads.TypeHead.{TypeHead}
 use Rattle.fcg_join.specs.Parts.{placed_view, placed_of, placed, types_of}
-use Rattle.fcg_join.specs.Internal.PartNames.{set_names}
+use Rattle.fcg_join.specs.SetNames.{set_names}
 use Rattle.fcg_join.specs.Internal.TypeHeads.{IsHead, no_head}
 use Rattle.fcg_join.specs.Internal.TypeNumbers.{AreHeads, head_at}
 use Rattle.fcg_join.specs.NodeTables.{first_nodes, owners}

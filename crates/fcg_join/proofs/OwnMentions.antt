@@ -16,7 +16,7 @@ use Rattle.fcg_analysis.proofs.General.Walking.{led_from_walk}
 use Rattle.fcg_analysis.proofs.WinnerLaws.{known_acyclic}
 use Rattle.fcg_order.specs.Links.{row}
 use Rattle.fcg_join.specs.declared.heads.TypeHead.{TypeHead}
-use Rattle.fcg_join.specs.Internal.PartNames.{set_names, all_names}
+use Rattle.fcg_join.specs.SetNames.{set_names, all_names}
 use Rattle.fcg_join.specs.Internal.TypeHeads.{IsHead}
 use Rattle.fcg_join.specs.Internal.TypeNumbers.{AreHeads, FindsHeads, head_at, type_numbered}
 use Rattle.fcg_join.specs.TypeTables.{HasOwnRows, HasNames, mentions_at, own_mentions}

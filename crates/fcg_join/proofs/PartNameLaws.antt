@@ -9,7 +9,8 @@ use Rattle.fcg_grammar.specs.Table.{table}
 use Rattle.fcg_partial.specs.Parts.{PartShown}
 use Rattle.fcg_join.specs.declared.part_names.NamePlace.{NamePlace}
 use Rattle.fcg_join.specs.Names.{text_at, AreNumbered}
-use Rattle.fcg_join.specs.Internal.PartNames.{part_names, all_names, set_names, places_in, IsNamePlace, name_there, no_part, no_place}
+use Rattle.fcg_join.specs.SetNames.{part_names, all_names, set_names}
+use Rattle.fcg_join.specs.Internal.PartNames.{places_in, IsNamePlace, name_there, no_part, no_place}
 use Rattle.fcg_join.specs.Internal.Collected.{collected}
 use Rattle.fcg_join.proofs.CollectedLaws.{From, later, here, from_start, map_twice, all_both, all_ranged, by_places, same_map, all_picked}
 

@@ -12,7 +12,7 @@ use Rattle.fcg_grammar.proofs.Among.{among_at}
 use Rattle.fcg_grammar.proofs.TableLaws.{above_first, itself}
 use Rattle.fcg_join.specs.Internal.Searched.{IsSearched}
 
-rises_at : (xs : List (List ℕ)) (j k : ℕ) → Rises xs → j < k → k < length xs → order (get_or xs j []) (get_or xs k []) ≡ Less
+pub rises_at : (xs : List (List ℕ)) (j k : ℕ) → Rises xs → j < k → k < length xs → order (get_or xs j []) (get_or xs k []) ≡ Less
 rises_at [] j k r a b = absurd (omega arith)
 rises_at (x ∷ xs) zero zero r a b = absurd (omega arith)
 rises_at (x ∷ xs) zero (suc k) r a b = above_first (get_or xs k []) x xs r (among_at xs k [] (omega arith))

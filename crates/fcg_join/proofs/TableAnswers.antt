@@ -15,12 +15,15 @@ use Rattle.fcg_join.specs.declared.id.TypeId.{TypeId}
 use Rattle.fcg_join.specs.declared.tables.TypeTables.{TypeTables}
 use Rattle.fcg_join.specs.Parts.{placed, types_of}
 use Rattle.fcg_join.specs.declared.part_names.NamePlace.{NamePlace}
-use Rattle.fcg_join.specs.Internal.PartNames.{set_names, name_there}
+use Rattle.fcg_join.specs.SetNames.{set_names}
+use Rattle.fcg_join.specs.Internal.PartNames.{name_there}
 use Rattle.fcg_join.specs.Internal.TypeHeads.{IsHead, no_head}
 use Rattle.fcg_join.specs.TypeLinks.{HasTypeAt}
-use Rattle.fcg_join.specs.Internal.TypeNumbers.{head_at, superclass_numbered}
+use Rattle.fcg_join.specs.Internal.TypeNumbers.{head_at, superclass_numbered, AreHeads, FindsHeads}
+use Rattle.fcg_join.specs.declared.heads.TypeHead.{TypeHead}
+use Rattle.fcg_join.specs.Internal.Below.{AreSuperclasses}
 use Rattle.fcg_join.specs.Joined.{IsTypeNumber}
-use Rattle.fcg_join.specs.Internal.Tables.{IsJoined, next_numbered}
+use Rattle.fcg_join.specs.Internal.Tables.{IsJoined, next_numbered, superclasses_of}
 use Rattle.fcg_join.proofs.Places.{has_in}
 use Rattle.fcg_join.proofs.ZipLaws.{zip_long}
 use Rattle.fcg_join.proofs.JoinedLaws.{head_of_type, gives_superclass, gives_next, gives_named, gives_unnamed}
@@ -34,6 +37,18 @@ in_range types o r None h e = tt
 in_range types None r (Some id) h e = absurd cc
 in_range types (Some y) None (Some id) h e = absurd h
 in_range types (Some y) (Some u) (Some id) h e = (let same : id.0 ≡ y = cc in subst (λ (n : ℕ). n < length types) (sym same) (slice_get_within types y u h))
+
+-- the superclasses by numbers, as they are made
+module _ (parts : List PartShown) (heads : List TypeHead) (by_name : List (Option ℕ)) (are : AreHeads parts heads (types_of parts)) (f : FindsHeads heads by_name (length (set_names parts)))
+    (superclasses : List (Option ℕ)) (e : superclasses ≡ superclasses_of heads by_name) where
+  pub many_made : length superclasses ≡ length (types_of parts)
+  many_made = ap (λ ss. length ss) e ∙ length-map heads (λ h. superclass_numbered heads by_name h.superclass) ∙ zip_long (IsHead parts (set_names parts)) heads (types_of parts) are
+
+  pub superclasses_made : AreSuperclasses (types_of parts) superclasses
+  superclasses_made y x h =
+      let l : y < length heads = (let a = slice_get_within (types_of parts) y x h in let b = zip_long (IsHead parts (set_names parts)) heads (types_of parts) are in omega (arith, a, b)) in
+      gives_superclass parts heads (types_of parts) are (known_distinct (placed parts)) by_name f y x h (get_or superclasses y None)
+      (ap (λ ss. get_or ss y None) e ∙ get_or-map (λ h. superclass_numbered heads by_name h.superclass) heads y no_head None l)
 
 module _ (parts : List PartShown) (t : TypeTables) (j : IsJoined parts t) where
   pub heads_many : length t.heads.items ≡ length (types_of parts)

@@ -8,8 +8,10 @@ pub mod Below
 pub mod Inherited
 pub mod Searched
 pub mod Nodes
+pub mod Signatures
 pub mod PartNames
 pub mod PartRows
 pub mod TypeHeads
 pub mod TypeNumbers
 pub mod MethodRows
+pub mod Supers

@@ -2,8 +2,11 @@ pub mod Winners
 pub mod TypeLinks
 pub mod TypeTables
 pub mod Names
+pub mod SetNames
 pub mod Parts
 pub mod NodeTables
 pub mod Places
 pub mod Joined
+pub mod Outcomes
+pub mod Numbers
 pub mod Internal

@@ -2,10 +2,13 @@
 ghost use Rattle.std.specs.Prelude.{◌≡◌, ◌<◌, ◌^◌, ◌++◌, ◌||◌, ℕ, List, None, Some, slice_get, length, map, option_map, slice_index_or, IfOk, OnOk, IfSome, if◌then◌else◌};
 ghost use Rattle.fcg_grammar.specs.Table.{place};
 ghost use Rattle.fcg_views.specs.declared.view.View.{View};
+ghost use Rattle.fcg_partial.specs.Parts.{PartShown};
+ghost use Rattle.fcg_partial.specs.Views.{super_number_of};
 ghost use Rattle.fcg_analysis.specs.NamesAndFlags.{same, has};
 ghost use Rattle.fcg_analysis.specs.Declarations.{Placed, object_name};
 ghost use Rattle.fcg_join.specs.Parts.{placed_view};
-ghost use Rattle.fcg_join.specs.Internal.PartNames.{part_names, set_names, names_by_number};
+ghost use Rattle.fcg_join.specs.SetNames.{part_names, set_names};
+ghost use Rattle.fcg_join.specs.Internal.PartNames.{names_by_number};
 ghost use Rattle.fcg_join.specs.Internal.PartRows.{HasView, row_of_view};
 ghost use Rattle.fcg_join.specs.Internal.TypeHeads.{head_of, heads_in, heads_of, IsHead};
 
@@ -101,6 +104,16 @@ pub(crate) fn superclass_name_of_head<'a>(parts: &'a [Part], head: &TypeHead) ->
 {
     let part = &parts[head.part as usize];
     superclass_name(part, head.place)
+}
+
+// The number that its part has for the name of its superclass.
+pub(crate) fn superclass_number(parts: &[Part], head: &TypeHead) -> Option<u32>
+    requires { (t : Placed) × IsHead parts.now (set_names parts.now) head.now t }
+    ensures value { (p : PartShown) (v : View) → slice_get parts.now head.now.part ≡ Some p → HasView p head.now.place v → result ≡ super_number_of (part_names p) v.superclass }
+    ensures below { (p : PartShown) → slice_get parts.now head.now.part ≡ Some p → IfSome result (λ n. n < length (part_names p)) }
+{
+    let part = &parts[head.part as usize];
+    load_type(part, head.place).superclass
 }
 
 // How many interfaces a type has.

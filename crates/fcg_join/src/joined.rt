@@ -1,5 +1,5 @@
 //! The known types of some parts.
-ghost use Rattle.std.specs.Prelude.{◌≡◌, ◌||◌, ◌↔◌, ◌<◌, ◌≤◌, ◌^◌, Contains, None, Some, length, map, option_map, slice_get, IfOk, IfSome, IsTrue};
+ghost use Rattle.std.specs.Prelude.{◌≡◌, ◌||◌, ◌↔◌, ◌<◌, ◌≤◌, ◌^◌, None, Some, length, map, option_map, slice_get, IfOk, IfSome, IsTrue};
 ghost use Rattle.fcg_grammar.specs.Table.{place};
 ghost use Rattle.fcg_partial.specs.Parts.{PartShown, encoded_len};
 ghost use Rattle.fcg_partial.specs.Views.{text_of};
@@ -10,7 +10,7 @@ ghost use Rattle.fcg_analysis.specs.Nodes.{Node};
 ghost use Rattle.fcg_analysis.specs.Laws.ChainParts.{next_in_chain};
 ghost use Rattle.fcg_analysis.specs.Laws.Methods.{first_node, AreApart};
 ghost use Rattle.fcg_join.specs.Parts.{types_of, nodes_of};
-ghost use Rattle.fcg_join.specs.Internal.PartNames.{part_names, set_names};
+ghost use Rattle.fcg_join.specs.SetNames.{part_names, set_names};
 ghost use Rattle.fcg_join.specs.Internal.TypeHeads.{IsHead, IsFirstHead};
 ghost use Rattle.fcg_join.specs.Joined.{HasType, HasNode, GivesType};
 ghost use Rattle.fcg_join.specs.Internal.Tables.{next_numbered};
@@ -54,7 +54,7 @@ fn count_bytes(part: &Part) -> u64
 }
 
 // The number as that of a type.
-fn type_id(number: Option<u32>) -> Option<TypeId>
+pub(crate) fn type_id(number: Option<u32>) -> Option<TypeId>
     ensures { option_map (λ id. id.0) result ≡ number }
 {
     match number {
@@ -213,15 +213,6 @@ impl Joined {
         ensures few { length (nodes_of self.now) < 2 ^ 32 }
     {
         self.tables.nodes.firsts[t.0 as usize]
-    }
-
-    // The number of a name, where some part has the name.
-    pub(crate) fn name_number(&self, name: &[u8]) -> Option<u32>
-        ensures found { IfSome result (λ n. slice_get (set_names self.now) n ≡ Some name.now) }
-        ensures none { result ≡ None → Contains (set_names self.now) name.now → ⊥ }
-    {
-        let places = self.tables.names.places.as_slice();
-        find_name(self.parts.as_slice(), places, name)
     }
 
     // Of a part's names the numbers of the set.

@@ -35,8 +35,8 @@ impl Joined {
     /// Whether a type is at or below a name: whether it or a type above it has the name, or uses it where no known type has
     /// it. All types are at or below Object's name.
     ///
-    /// Takes no memory. It compares the name with a logarithm of the number of all names; it then goes along the type's
-    /// superclasses where the name is that of a known class, and else searches the row of names that the type mentions.
+    /// Takes no memory. It compares the name with a logarithm of the number of all names; it then compares two places where
+    /// the name is that of a known class, and else searches the row of names that the type mentions.
     pub fn at_or_below(&self, d: TypeId, name: &[u8]) -> bool
         requires { d.0 < length (types_of self.now) }
         ensures { (x : Placed) → HasType self.now d x → result ≡ is_below (types_of self.now) x name.now }
@@ -46,7 +46,8 @@ impl Joined {
 
     /// The types at or below a name, in their order.
     ///
-    /// It looks the name up once, and then tests each known type as `at_or_below` does. The only error is want of memory.
+    /// It looks the name up as `at_or_below` does, and then takes the time of its answer, which it sorts where the name is
+    /// that of a known class. The only error is want of memory.
     pub fn below(&self, alloc: Global, name: &[u8]) -> Result<Vec<TypeId>, NoMemory>
         ensures value { IfOk result (λ ids. map (λ id. slice_get (types_of self.now) id.0) ids.items ≡ map Some (filter (λ t. is_below (types_of self.now) t name.now) (types_of self.now))) }
         ensures range { IfOk result (λ ids. All (λ id. id.0 < length (types_of self.now)) ids.items) }

@@ -1,15 +1,14 @@
 //! The methods of the known types of some parts.
-ghost use Rattle.std.specs.Prelude.{◌≡◌, ◌<◌, ℕ, None, length, slice_get, Some, IfSome};
-ghost use Rattle.fcg_views.specs.declared.view.Method.{Method};
+ghost use Rattle.std.specs.Prelude.{◌≡◌, ◌<◌, length, IfSome};
 ghost use Rattle.fcg_analysis.specs.Declarations.{Placed};
 ghost use Rattle.fcg_analysis.specs.Nodes.{Node, declared};
 ghost use Rattle.fcg_join.specs.Parts.{types_of, nodes_of};
 ghost use Rattle.fcg_join.specs.Joined.{HasType, HasNode, GivesNode, IsOrigin, signature};
-ghost use Rattle.fcg_join.specs.Internal.MethodRows.{IsMethodPlace, IsNumbered};
+ghost use Rattle.fcg_join.specs.Internal.MethodRows.{IsMethodPlace};
 
 use crate::id::{MethodId, TypeId, TypeOrigin};
 use crate::joined::Joined;
-use crate::methods::{MethodPlace, desc_of_method, find_method, flags_of_method, name_of_method};
+use crate::methods::{MethodPlace, desc_of_method, flags_of_method, name_of_method};
 
 impl Joined {
     /// Where a type comes from: the part and the place in it, which are those of the first view of its name, and the
@@ -65,29 +64,14 @@ impl Joined {
         desc_of_method(self.parts().as_slice(), self.method_place(m))
     }
 
-    // The first method of a type that has the name and the descriptor of these numbers, by its place in the type.
-    fn own_method(&self, t: TypeId, name: u32, desc: u32) -> Option<u16>
-        requires { t.0 < length (types_of self.now) }
-        ensures found { (x : Placed) → HasType self.now t x → IfSome result (λ j. (m : Method) × (slice_get x.view.methods j ≡ Some m) × IsNumbered self.now name desc m) }
-        ensures none { (x : Placed) → HasType self.now t x → result ≡ None → (j : ℕ) (m : Method) → slice_get x.view.methods j ≡ Some m → IsNumbered self.now name desc m → ⊥ }
-    {
-        let head = self.head(t);
-        let part = &self.parts().as_slice()[head.part as usize];
-        let numbers = self.part_numbers(head.part);
-        find_method(part, numbers, head.place, head.methods, name, desc)
-    }
-
     /// The method of a name and a descriptor that a type declares. Takes no memory. It looks for the two names, each with
-    /// a logarithm of the number of all names in comparisons, and goes over the type's own methods by numbers.
+    /// a logarithm of the number of all names in comparisons, for the pair of their numbers, and among the methods that
+    /// have it.
     pub fn declared(&self, t: TypeId, name: &[u8], desc: &[u8]) -> Option<MethodId>
         requires { t.0 < length (types_of self.now) }
         ensures value { (x : Placed) → HasType self.now t x → GivesNode self.now result (declared (types_of self.now) (signature name.now desc.now) x) }
         ensures range { IfSome result (λ m. m.0 < length (nodes_of self.now)) }
     {
-        self.tell_apart();
-        let name = self.name_number(name)?;
-        let desc = self.name_number(desc)?;
-        let index = self.own_method(t, name, desc)?;
-        Some(MethodId(self.first_method(t) + u32::from(index)))
+        self.declared_as(t, self.signature(name, desc))
     }
 }

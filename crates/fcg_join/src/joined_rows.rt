@@ -1,10 +1,12 @@
 //! Rows of numbers that are joined along links.
-ghost use Rattle.std.specs.Prelude.{◌≡◌, ◌<◌, ◌^◌, ◌++◌, ◌∷◌, [], ℕ, All, IfOk, OnOk, flat_map, length, slice_set};
+ghost use Rattle.std.specs.Prelude.{◌≡◌, ◌<◌, ◌^◌, ◌++◌, ◌∷◌, [], ℕ, All, Contains, IfOk, OnOk, flat_map, length, map, slice_set};
+ghost use Rattle.std.specs.List.{range_with_len};
+ghost use Rattle.std.specs.List.Sorted.{IsStrictlyIncreasing};
 ghost use Rattle.fcg_order.specs.Links.{row, IsWithin, IsCircular};
 ghost use Rattle.fcg_order.specs.Order.{IsOrder};
-ghost use Rattle.fcg_join.specs.Internal.Mentions.{row_of, HasRow, AreSorted, AreJoinedRows};
+ghost use Rattle.fcg_join.specs.Internal.Mentions.{row_of, HasRow, AreSorted, AreJoinedRows, AreTurnedRows};
 
-use fcg_order::{Links, Links as Rows};
+use fcg_order::{Links, Links as Rows, turn_rows};
 use std::alloc::{AllocError, Global};
 
 // How many numbers the rows have in sum at most.
@@ -20,7 +22,7 @@ pub struct JoinedRows {
 }
 
 // Sorts a row, and drops repeats.
-fn sort_distinct(row: &mut Vec<u32>)
+pub(crate) fn sort_distinct(row: &mut Vec<u32>)
     ensures { AreSorted row.old.items row.new.items }
 {
     row.sort_unstable();
@@ -83,6 +85,32 @@ impl JoinedRows {
     {
         self.places[node as usize] = self.rows.len() as u32;
         self.rows.push_row(row)
+    }
+
+    // The rows in the order of the nodes.
+    fn list_rows(&self, alloc: Global) -> Result<Rows, AllocError>
+        requires few { length self.now.places.items < 2 ^ 32 }
+        requires there { (x : ℕ) → x < length self.now.places.items → HasRow self.now x }
+        ensures { IfOk result (λ rows. rows ≡ map (row_of self.now) (range_with_len 0 (length self.now.places.items))) }
+    {
+        let mut rows = Rows::new(alloc)?;
+        for node in 0..self.places.len() {
+            rows.push_row(self.row(node as u32))?;
+        }
+        Ok(rows)
+    }
+
+    // Of each number below the count the nodes whose rows have it.
+    pub(crate) fn turn(&self, alloc: Global, count: usize) -> Result<Rows, AllocError>
+        requires few { length self.now.places.items < 2 ^ 32 }
+        requires few_numbers { count < 2 ^ 32 }
+        requires there { (x : ℕ) → x < length self.now.places.items → HasRow self.now x }
+        requires below { (x n : ℕ) → x < length self.now.places.items → Contains (row_of self.now x) n → n < count }
+        requires rise { (x : ℕ) → x < length self.now.places.items → IsStrictlyIncreasing (row_of self.now x) }
+        ensures { IfOk result (λ turned. AreTurnedRows self.now count turned) }
+    {
+        let rows = self.list_rows(alloc)?;
+        turn_rows(alloc, &rows, count)
     }
 }
 

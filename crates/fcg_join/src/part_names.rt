@@ -3,7 +3,8 @@ ghost use Rattle.std.specs.Prelude.{◌≡◌, ◌<◌, ◌≤◌, ◌+◌, ◌^
 ghost use Rattle.fcg_grammar.specs.Table.{order, place, Rises};
 ghost use Rattle.fcg_join.specs.Names.{texts_of};
 ghost use Rattle.fcg_join.specs.Internal.Collected.{collected};
-ghost use Rattle.fcg_join.specs.Internal.PartNames.{part_names, all_names, set_names, names_by_number, places_in, no_place, IsNamePlace, AreSetNames, name_there};
+ghost use Rattle.fcg_join.specs.SetNames.{part_names, all_names, set_names};
+ghost use Rattle.fcg_join.specs.Internal.PartNames.{names_by_number, places_in, no_place, IsNamePlace, AreSetNames, name_there};
 
 use crate::names::number_names;
 use fcg_order::Links as Rows;

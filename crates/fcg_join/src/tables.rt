@@ -10,6 +10,7 @@ use crate::known::{TypeLinks, find_known, link_types};
 use crate::methods::tell_parts;
 use crate::nodes::{NodeTables, number_nodes};
 use crate::part_names::{SetNames, number_part_names};
+use crate::signatures::{SignatureTables, number_signatures};
 use crate::type_links::find_superclasses;
 use fcg_partial::Part;
 use std::alloc::{AllocError, Global};
@@ -26,6 +27,7 @@ pub struct TypeTables {
     pub object: Option<u32>,
     pub nodes: NodeTables,
     pub inherited: InheritedTables,
+    pub signatures: SignatureTables,
 }
 
 // Whether it is Object, and a class.
@@ -60,7 +62,15 @@ pub(crate) fn make_tables(alloc: Global, parts: &[Part]) -> Result<TypeTables, A
     let superclasses = find_superclasses(alloc, heads.as_slice(), linked.by_name.as_slice())?;
     let object = find_object(heads.as_slice());
     let nodes = number_nodes(alloc, heads.as_slice())?;
-    let inherited = find_inherited(alloc, parts, &names.numbers, heads.as_slice(), &linked)?;
+    let inherited = find_inherited(
+        alloc,
+        parts,
+        &names.numbers,
+        heads.as_slice(),
+        &linked,
+        superclasses.as_slice(),
+    )?;
+    let signatures = number_signatures(alloc, parts, &names.numbers, heads.as_slice(), &nodes)?;
     tell_parts(parts);
     Ok(TypeTables {
         names,
@@ -70,5 +80,6 @@ pub(crate) fn make_tables(alloc: Global, parts: &[Part]) -> Result<TypeTables, A
         object,
         nodes,
         inherited,
+        signatures,
     })
 }

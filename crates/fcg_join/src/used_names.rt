@@ -3,7 +3,8 @@ ghost use Rattle.std.specs.Prelude.{◌≡◌, ◌<◌, ◌++◌, List, ℕ, len
 ghost use Rattle.fcg_grammar.specs.Table.{place};
 ghost use Rattle.fcg_views.specs.declared.view.View.{View};
 ghost use Rattle.fcg_analysis.specs.Declarations.{Placed, interface_names};
-ghost use Rattle.fcg_join.specs.Internal.PartNames.{part_names, set_names, names_by_number};
+ghost use Rattle.fcg_join.specs.SetNames.{part_names, set_names};
+ghost use Rattle.fcg_join.specs.Internal.PartNames.{names_by_number};
 ghost use Rattle.fcg_join.specs.Internal.PartRows.{HasView};
 ghost use Rattle.fcg_join.specs.Internal.TypeHeads.{IsHead};
 

@@ -9,3 +9,7 @@ mod chains;
 mod joined;
 #[cfg(test)]
 mod numbers;
+#[cfg(test)]
+mod signatures;
+#[cfg(test)]
+mod supers;

@@ -11,3 +11,6 @@ pub mod StepLaws
 pub mod SearchLaws
 pub mod FillLaws
 pub mod WithinLaws
+pub mod TurnLaws
+pub mod PlaceSums
+pub mod PlaceLaws

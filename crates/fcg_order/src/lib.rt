@@ -8,8 +8,12 @@
 mod fill;
 mod links;
 mod order;
+mod places;
 mod search;
+mod turn;
 
 pub use fill::fill_upward;
 pub use links::Links;
 pub use order::{Order, find_order};
+pub use places::{Places, find_places};
+pub use turn::turn_rows;

@@ -1,6 +1,7 @@
 //! Links between numbered nodes.
 ghost use Rattle.std.specs.Prelude.{◌≡◌, ◌<◌, ◌++◌, ◌∷◌, ◌↔◌, [], length, All, IfOk, OnOk, OnErr, IsTrue};
 ghost use Rattle.fcg_order.specs.Links.{row, IsWithin};
+ghost use Rattle.fcg_order.specs.Internal.Rows.{rows_of, AreStarts};
 
 use std::alloc::{AllocError, Global};
 use std::marker::Model;
@@ -40,6 +41,14 @@ impl Links {
         let starts = vec![in alloc; 0; 1]?;
         let targets = Vec::new(alloc);
         Ok(Links { starts, targets })
+    }
+
+    // The rows between these starts.
+    pub(crate) fn from_starts(starts: Vec<usize>, targets: Vec<u32>) -> Links
+        requires { AreStarts starts.items targets.items }
+        ensures { result ≡ rows_of starts.items targets.items }
+    {
+        Links { starts, targets }
     }
 
     /// Adds a node with those to which it links, in any order, also ones that are added later. The only error is want of

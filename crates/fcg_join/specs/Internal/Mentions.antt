@@ -2,7 +2,7 @@
 use Rattle.std.specs.Prelude.{◌≡◌, ◌↔◌, ℕ, ◌<◌, List, [], ◌∷◌, ◌++◌, Option, flat_map, is_none, length, option_to_list, slice_index_or, Contains, if◌then◌else◌}
 use Rattle.std.specs.List.Sorted.{IsStrictlyIncreasing}
 use Rattle.fcg_analysis.specs.NamesAndFlags.{has}
-use Rattle.fcg_order.specs.Links.{row}
+use Rattle.fcg_order.specs.Links.{row, HasLink}
 use Rattle.fcg_analysis.specs.Declarations.{Placed}
 use Rattle.fcg_join.specs.declared.heads.TypeHead.{TypeHead}
 use Rattle.fcg_join.specs.declared.joined_rows.JoinedRows.{JoinedRows}
@@ -45,3 +45,9 @@ pub record AreMentions (names : List (List ℕ)) (types : List Placed) (r : Join
   pub there : (x : ℕ) → x < length types → HasRow r x
   pub upward : AreUpwardRows types (mentions_at names types) (row_of r)
   pub rise : (x : ℕ) → x < length types → IsStrictlyIncreasing (row_of r x)
+
+-- each number below the count has a row, which rises and has the nodes whose rows have the number
+pub record AreTurnedRows (r : JoinedRows) (count : ℕ) (turned : List (List ℕ)) : Type 0 where
+  pub long : length turned ≡ count
+  pub each : (n x : ℕ) → n < count → HasLink turned n x ↔ ((x < length r.places.items) × Contains (row_of r x) n)
+  pub rise : (n : ℕ) → n < count → IsStrictlyIncreasing (row turned n)

@@ -1,12 +1,12 @@
 -- The methods of a part's types, by its views.
-use Rattle.std.specs.Prelude.{◌≡◌, ℕ, ◌==◌, ◌&&◌, Bool, List, length, Some, slice_get, slice_index_or}
+use Rattle.std.specs.Prelude.{◌≡◌, ℕ, List, length, Some, slice_get}
 use Rattle.fcg_grammar.specs.Table.{place}
 use Rattle.fcg_views.specs.declared.view.View.{View}
 use Rattle.fcg_views.specs.declared.view.Method.{Method}
 use Rattle.fcg_partial.specs.declared.row.MethodRow.{MethodRow}
 use Rattle.fcg_partial.specs.Parts.{PartShown}
 use Rattle.fcg_join.specs.declared.methods.MethodPlace.{MethodPlace}
-use Rattle.fcg_join.specs.Internal.PartNames.{part_names, set_names}
+use Rattle.fcg_join.specs.SetNames.{part_names}
 use Rattle.fcg_join.specs.Internal.PartRows.{HasView}
 
 -- m is the method at a place of the type at a place of a part
@@ -26,15 +26,3 @@ pub record IsMethodPlace (parts : List PartShown) (at : MethodPlace) (m : Method
   pub part : PartShown
   pub part_is : slice_get parts at.part ≡ Some part
   pub method_is : HasOwnMethod part at.place at.index m
-
--- the number of the set for a name of a part
-abbrev pub set_number : List ℕ → PartShown → List ℕ → ℕ
-set_number numbers p n = slice_index_or numbers (place (part_names p) n) 0
-
--- m has the name and the descriptor of these numbers
-abbrev pub has_numbers : List ℕ → PartShown → ℕ → ℕ → Method → Bool
-has_numbers numbers p name desc m = set_number numbers p m.name == name && set_number numbers p m.desc == desc
-
--- its name and its descriptor have these numbers of the set
-abbrev pub IsNumbered : List PartShown → ℕ → ℕ → Method → Type 0
-IsNumbered parts name desc m = (place (set_names parts) m.name ≡ name) × (place (set_names parts) m.desc ≡ desc)

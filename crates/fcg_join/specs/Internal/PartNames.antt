@@ -1,22 +1,11 @@
--- The names of some parts, by numbers: a name's number is its place in the table of all their names.
-use Rattle.std.specs.Prelude.{◌≡◌, ℕ, ◌<◌, List, [], length, map, flat_map, Some, All, slice_get, slice_index_or}
+-- The tables of the names of some parts, by numbers.
+use Rattle.std.specs.Prelude.{◌≡◌, ℕ, ◌<◌, List, [], length, map, Some, All, slice_get, slice_index_or}
 use Rattle.std.specs.List.{range_with_len}
-use Rattle.fcg_grammar.specs.Table.{table, place}
+use Rattle.fcg_grammar.specs.Table.{place}
 use Rattle.fcg_partial.specs.Parts.{PartShown}
-use Rattle.fcg_partial.specs.Views.{graph_of}
+use Rattle.fcg_join.specs.SetNames.{part_names, set_names}
 use Rattle.fcg_join.specs.declared.part_names.NamePlace.{NamePlace}
 use Rattle.fcg_join.specs.declared.part_names.SetNames.{SetNames}
-
--- the names of a part, and of all parts, part after part
-abbrev pub part_names : PartShown → List (List ℕ)
-part_names p = (graph_of p.views).names
-
-unfoldable pub all_names : List PartShown → List (List ℕ)
-all_names parts = flat_map part_names parts
-
--- each name once, in the order of the bytes
-unfoldable pub set_names : List PartShown → List (List ℕ)
-set_names parts = table (all_names parts)
 
 -- of each part the numbers of its names
 abbrev pub names_by_number : List (List ℕ) → List PartShown → List (List ℕ)

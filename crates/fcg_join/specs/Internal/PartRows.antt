@@ -5,7 +5,7 @@ use Rattle.fcg_partial.specs.declared.row.TypeRow.{TypeRow}
 use Rattle.fcg_partial.specs.Parts.{PartShown}
 use Rattle.fcg_partial.specs.Views.{super_number_of}
 use Rattle.fcg_grammar.specs.Table.{place}
-use Rattle.fcg_join.specs.Internal.PartNames.{part_names}
+use Rattle.fcg_join.specs.SetNames.{part_names}
 
 -- v is the view at a place of a part
 abbrev pub HasView : PartShown → ℕ → View → Type 0

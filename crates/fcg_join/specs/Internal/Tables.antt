@@ -7,13 +7,15 @@ use Rattle.fcg_analysis.specs.Laws.Methods.{AreApart}
 use Rattle.fcg_join.specs.declared.heads.TypeHead.{TypeHead}
 use Rattle.fcg_join.specs.declared.tables.TypeTables.{TypeTables}
 use Rattle.fcg_join.specs.Parts.{types_of, nodes_of}
-use Rattle.fcg_join.specs.Internal.PartNames.{set_names, AreSetNames}
+use Rattle.fcg_join.specs.SetNames.{set_names}
+use Rattle.fcg_join.specs.Internal.PartNames.{AreSetNames}
 use Rattle.fcg_join.specs.TypeLinks.{HasLinks}
 use Rattle.fcg_join.specs.Internal.TypeHeads.{IsFirstHead}
 use Rattle.fcg_join.specs.Internal.TypeNumbers.{AreHeads, FindsHeads, superclass_numbered}
 use Rattle.fcg_join.specs.Joined.{IsTypeNumber}
 use Rattle.fcg_join.specs.Internal.Inherited.{AreInherited}
 use Rattle.fcg_join.specs.Internal.Nodes.{AreNodeTables}
+use Rattle.fcg_join.specs.Internal.Signatures.{AreSignatures}
 
 abbrev pub is_object_class : TypeHead → Bool
 is_object_class h = h.is_object && not (has 0x0200 h.flags)
@@ -36,6 +38,7 @@ pub record IsJoined (parts : List PartShown) (t : TypeTables) : Type 0 where
   pub few_nodes : length (nodes_of parts) < 2 ^ 32
   pub nodes' : AreNodeTables (types_of parts) t.nodes.firsts.items t.nodes.owners.items
   pub inherited' : AreInherited parts t.inherited
+  pub signatures' : AreSignatures parts t.signatures
 
 -- the next of a chain: the superclass, or else Object, unless the chain ends
 abbrev pub next_numbered : Option ℕ → Bool → Option ℕ → Option ℕ

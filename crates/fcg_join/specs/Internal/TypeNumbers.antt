@@ -6,7 +6,7 @@ use Rattle.fcg_partial.specs.Parts.{PartShown}
 use Rattle.fcg_analysis.specs.NamesAndFlags.{has}
 use Rattle.fcg_analysis.specs.Declarations.{Placed, interface_names}
 use Rattle.fcg_join.specs.declared.heads.TypeHead.{TypeHead}
-use Rattle.fcg_join.specs.Internal.PartNames.{set_names}
+use Rattle.fcg_join.specs.SetNames.{set_names}
 use Rattle.fcg_join.specs.Internal.TypeHeads.{IsHead, no_head, used_superclass}
 
 -- these are the types, place by place

@@ -1,7 +1,7 @@
 use Rattle.std.proofs.Common.{sym, subst, refl}
 use Rattle.fcg_grammar.specs.Table.{Rises}
 use Rattle.fcg_grammar.proofs.TableLaws.{table_rises}
-use Rattle.fcg_join.specs.Internal.PartNames.{all_names, set_names}
+use Rattle.fcg_join.specs.SetNames.{all_names, set_names}
 use Rattle.fcg_join.proofs.TableAnswers.{names_here}
 use Rattle.fcg_join.proofs.BelowAnswers.{is_name_number, number_below}
 use Rattle.fcg_join.proofs.below.find_number.Goals as goal

@@ -2,7 +2,7 @@ use Rattle.std.proofs.Common.{[], sym, ap, subst, ◌∙◌}
 use Rattle.std.proofs.lemmas.Option.{get_or_from_slice_get}
 use Rattle.fcg_analysis.specs.Types.{is_below}
 use Rattle.fcg_join.specs.Parts.{types_of}
-use Rattle.fcg_join.specs.Internal.PartNames.{set_names}
+use Rattle.fcg_join.specs.SetNames.{set_names}
 use Rattle.fcg_join.specs.Internal.Below.{IsNameNumber}
 use Rattle.fcg_join.proofs.BelowAnswers.{below_object_name, below_absent}
 use Rattle.fcg_join.proofs.below.is_below_found.Goals as goal

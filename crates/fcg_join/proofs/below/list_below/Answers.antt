@@ -1,38 +1,46 @@
-use Rattle.std.proofs.Common.{◌<◌, List, length, subst, arith}
-use Rattle.std.proofs.lemmas.List.{take_all}
-use Rattle.std.specs.Prelude.{filter}
-use Rattle.fcg_analysis.specs.Declarations.{Placed}
-use Rattle.fcg_analysis.specs.Types.{is_below}
+use Rattle.std.proofs.Common.{◌≡◌, ℕ, [], List, length, sym, ap, subst, ◌∙◌, arith}
+use Rattle.std.specs.Prelude.{false}
+use Rattle.std.specs.List.{range_with_len}
+use Rattle.std.proofs.lemmas.Option.{get_or_from_slice_get}
+use Rattle.std.proofs.lemmas.Result.{IfOk-weaker}
+use Rattle.fcg_analysis.specs.NamesAndFlags.{same}
+use Rattle.fcg_analysis.specs.Declarations.{object_name}
+use Rattle.fcg_join.specs.Names.{text_at}
 use Rattle.fcg_join.specs.Parts.{types_of}
-use Rattle.fcg_join.specs.Internal.Below.{HaveNumbers}
-use Rattle.fcg_join.proofs.GraphRows.{item}
+use Rattle.fcg_join.specs.SetNames.{set_names}
+use Rattle.fcg_join.specs.Internal.Below.{IsNameNumber, AreBelow}
 use Rattle.fcg_join.proofs.TableAnswers.{heads_many}
-use Rattle.fcg_join.proofs.BelowAnswers.{listed_next, within_next}
+use Rattle.fcg_join.proofs.BelowAnswers.{object_below, none_below}
 use Rattle.fcg_join.proofs.below.list_below.Goals as goal
 
-pub is_below_found-below-requires-clause-there : goal.is_below_found-below-requires-clause-there
-is_below_found-below-requires-clause-there c = (let m = heads_many c.args.parts.now c.args.tables.now c.requires in omega (arith, c.loop-x-test.true))
+pub list_all-requires : goal.list_all-requires
+list_all-requires c = (let m = heads_many c.args.parts.now c.args.tables.now c.requires in let f = c.requires.few in let e = c.len.ensures in let k = c.args.tables.now.heads.ok in omega (arith, m, f, e, k))
 
-pub loop-x-preserved : goal.loop-x-preserved
-loop-x-preserved c =
-    let types = types_of c.args.parts.now in
+pub returns-then-is_object_name : goal.returns-then-is_object_name
+returns-then-is_object_name c =
     let m = heads_many c.args.parts.now c.args.tables.now c.requires in
-    let l : c.loop-x.x < length types = omega (arith, c.loop-x-test.true) in
-    let t = item types c.loop-x.x l in
-    let e = c.is_below_found-below.ensures t.0 c.args.name.now t.1 c.find_number-number.ensures.value c.is_object_name-is_object.ensures in (
-      listed_next types (λ t. is_below types t c.args.name.now) c.loop-x.x t.0 t.1 c.is_below_found-below.result e c.loop-x.found.items c.push_if.new.row.items c.in_ok-push_if.ensures c.loop-x.invariant.0,
-      within_next (length types) c.loop-x.x l c.is_below_found-below.result c.loop-x.found.items c.push_if.new.row.items c.in_ok-push_if.ensures c.loop-x.invariant.1,
-    )
+    let k = c.args.tables.now.heads.ok in
+    let e = c.len.ensures in
+    let n : c.len.result ≡ length (types_of c.args.parts.now) = omega (arith, m, k, e) in
+    IfOk-weaker c.list_all.result (λ numbers. numbers.items ≡ range_with_len 0 c.len.result) (λ numbers. AreBelow (types_of c.args.parts.now) c.args.name.now numbers.items)
+    (λ numbers q. object_below (types_of c.args.parts.now) c.args.name.now (sym c.is_object_name.ensures ∙ c.if-is_object_name.true) numbers.items (q ∙ ap (range_with_len 0) n)) c.list_all.ensures
 
-pub returns-clause-value : goal.returns-clause-value
-returns-clause-value c =
-    let types = types_of c.args.parts.now in
-    let m = heads_many c.args.parts.now c.args.tables.now c.requires in
-    subst (λ (ts : List Placed). HaveNumbers types c.loop-x.found.items (filter (λ t. is_below types t c.args.name.now) ts))
-    (take_all c.loop-x.x types (let a = c.loop-x-test.false in omega arith)) c.loop-x.invariant.0
+text_is : (c : goal.In-Some) → text_at (set_names c.args.parts.now) c.in-Some.number ≡ c.args.name.now
+text_is c =
+    let s = subst (IsNameNumber (set_names c.args.parts.now) c.args.name.now) c.in-Some.is c.find_number.ensures.value in
+    get_or_from_slice_get (set_names c.args.parts.now) c.in-Some.number c.args.name.now [] s
 
-pub overflow_cast-x : goal.overflow_cast-x
-overflow_cast-x c = (let m = heads_many c.args.parts.now c.args.tables.now c.requires in let f = c.requires.few in omega (arith, c.loop-x-test.true))
+pub list_below_number-requires-clause-other : goal.list_below_number-requires-clause-other
+list_below_number-requires-clause-other c = ap (same object_name) (text_is c) ∙ sym c.is_object_name.ensures ∙ c.if-is_object_name.false
 
-pub overflow_cast-x-in-loop-x : goal.overflow_cast-x-in-loop-x
-overflow_cast-x-in-loop-x c = (let m = heads_many c.args.parts.now c.args.tables.now c.requires in let f = c.requires.few in omega (arith, c.loop-x-test.true))
+pub returns-in-Some : goal.returns-in-Some
+returns-in-Some c =
+    let s = subst (IsNameNumber (set_names c.args.parts.now) c.args.name.now) c.in-Some.is c.find_number.ensures.value in
+    let t = get_or_from_slice_get (set_names c.args.parts.now) c.in-Some.number c.args.name.now [] s in
+    IfOk-weaker c.list_below_number.result (λ numbers. AreBelow (types_of c.args.parts.now) (text_at (set_names c.args.parts.now) c.in-Some.number) numbers.items) (λ numbers. AreBelow (types_of c.args.parts.now) c.args.name.now numbers.items)
+    (λ numbers b. subst (λ (n : List ℕ). AreBelow (types_of c.args.parts.now) n numbers.items) t b) c.list_below_number.ensures
+
+pub returns-in-None : goal.returns-in-None
+returns-in-None c =
+    none_below c.args.parts.now c.args.tables.now c.requires c.args.name.now
+    (subst (IsNameNumber (set_names c.args.parts.now) c.args.name.now) c.in-None.is c.find_number.ensures.value) (sym c.is_object_name.ensures ∙ c.if-is_object_name.false) c.new.result.items c.new.ensures.items

@@ -3,7 +3,7 @@ use Rattle.std.specs.Prelude.{Bool, Option, map}
 use Rattle.std.proofs.lemmas.List.{length-map, take-append-le, take_all}
 use Rattle.fcg_analysis.specs.Types.{uses_unlinked_name}
 use Rattle.fcg_join.specs.Internal.TypeNumbers.{FindsHeads}
-use Rattle.fcg_join.specs.Internal.PartNames.{set_names}
+use Rattle.fcg_join.specs.SetNames.{set_names}
 use Rattle.fcg_order.specs.Fill.{IsFilled}
 use Rattle.fcg_join.specs.Internal.Gaps.{AreGaps}
 use Rattle.fcg_join.proofs.GapLaws.{marks_at}

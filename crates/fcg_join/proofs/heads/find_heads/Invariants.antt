@@ -1,5 +1,5 @@
 use Rattle.std.proofs.Common.{◌≡◌, ◌++◌, drop}
-use Rattle.fcg_join.specs.Internal.PartNames.{set_names}
+use Rattle.fcg_join.specs.SetNames.{set_names}
 use Rattle.fcg_join.specs.Internal.TypeHeads.{heads_in, heads_of}
 use Rattle.fcg_join.specs.Internal.Collected.{collected}
 use Rattle.fcg_join.proofs.heads.find_heads.Given as goal

@@ -2,7 +2,7 @@ use Rattle.std.proofs.Common.{◌≡◌, ℕ, List, [], ◌∷◌, ◌++◌, dro
 use Rattle.std.specs.Prelude.{map}
 use Rattle.fcg_grammar.specs.Table.{place}
 use Rattle.fcg_join.specs.Parts.{placed_view}
-use Rattle.fcg_join.specs.Internal.PartNames.{part_names}
+use Rattle.fcg_join.specs.SetNames.{part_names}
 use Rattle.fcg_join.specs.Internal.TypeHeads.{head_of, heads_in}
 use Rattle.fcg_join.specs.Internal.Collected.{collected}
 use Rattle.fcg_join.proofs.heads.push_heads.Given as goal

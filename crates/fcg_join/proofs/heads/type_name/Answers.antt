@@ -3,7 +3,7 @@ use Rattle.std.specs.Prelude.{slice_get, Some}
 use Rattle.fcg_views.specs.declared.view.View.{View}
 use Rattle.fcg_grammar.specs.Table.{place}
 use Rattle.fcg_partial.specs.Views.{graph_of}
-use Rattle.fcg_join.specs.Internal.PartNames.{part_names}
+use Rattle.fcg_join.specs.SetNames.{part_names}
 use Rattle.fcg_join.proofs.GraphRows.{named, name_back}
 use Rattle.fcg_join.proofs.heads.type_name.Goals as goal
 

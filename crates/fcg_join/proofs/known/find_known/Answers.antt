@@ -7,7 +7,7 @@ use Rattle.fcg_analysis.specs.Types.{winners, known}
 use Rattle.fcg_analysis.proofs.WinnerLaws.{winners_distinct}
 use Rattle.fcg_join.specs.declared.heads.TypeHead.{TypeHead}
 use Rattle.fcg_join.specs.Parts.{placed}
-use Rattle.fcg_join.specs.Internal.PartNames.{set_names}
+use Rattle.fcg_join.specs.SetNames.{set_names}
 use Rattle.fcg_join.specs.Internal.TypeHeads.{IsHead, IsFirstHead}
 use Rattle.fcg_join.specs.Internal.TypeNumbers.{AreHeads}
 use Rattle.fcg_join.specs.Winners.{marked}

@@ -4,7 +4,8 @@ use Rattle.std.proofs.lemmas.List.{length-map}
 use Rattle.std.proofs.lemmas.Result.{IfOk-weaker}
 use Rattle.fcg_analysis.specs.Types.{winners}
 use Rattle.fcg_join.specs.Parts.{placed}
-use Rattle.fcg_join.specs.Internal.PartNames.{set_names, name_there}
+use Rattle.fcg_join.specs.SetNames.{set_names}
+use Rattle.fcg_join.specs.Internal.PartNames.{name_there}
 use Rattle.fcg_join.specs.declared.heads.TypeHead.{TypeHead}
 use Rattle.fcg_join.specs.Internal.TypeHeads.{IsFirstHead}
 use Rattle.fcg_join.specs.Internal.TypeNumbers.{AreHeads}

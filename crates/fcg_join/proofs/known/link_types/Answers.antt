@@ -1,6 +1,6 @@
 use Rattle.std.proofs.Common.{◌≡◌, ℕ, List, length, sym, subst, arith}
 use Rattle.std.specs.Prelude.{Option}
-use Rattle.fcg_join.specs.Internal.PartNames.{set_names}
+use Rattle.fcg_join.specs.SetNames.{set_names}
 use Rattle.fcg_join.specs.Internal.TypeNumbers.{FindsHeads}
 use Rattle.fcg_join.proofs.HeadLaws.{names_below}
 use Rattle.fcg_join.proofs.LinkLaws.{has_links}

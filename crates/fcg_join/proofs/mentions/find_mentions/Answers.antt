@@ -6,7 +6,7 @@ use Rattle.fcg_analysis.proofs.WinnerLaws.{known_distinct}
 use Rattle.fcg_analysis.proofs.General.Places.{some_at}
 use Rattle.fcg_order.specs.Links.{row}
 use Rattle.fcg_join.specs.Parts.{placed, types_of}
-use Rattle.fcg_join.specs.Internal.PartNames.{set_names}
+use Rattle.fcg_join.specs.SetNames.{set_names}
 use Rattle.fcg_join.specs.Internal.TypeNumbers.{FindsHeads}
 use Rattle.fcg_join.specs.TypeTables.{own_mentions, mentions_at}
 use Rattle.fcg_join.specs.Internal.Mentions.{row_of, AreJoinedRows, AreMentions}

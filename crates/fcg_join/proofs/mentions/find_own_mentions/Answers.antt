@@ -3,7 +3,7 @@ use Rattle.std.specs.Prelude.{All, IfSome}
 use Rattle.std.proofs.lemmas.Option.{slice_get-get_or, slice_get_within, get_or_from_slice_get}
 use Rattle.fcg_analysis.proofs.WinnerLaws.{known_distinct}
 use Rattle.fcg_join.specs.Parts.{placed, types_of}
-use Rattle.fcg_join.specs.Internal.PartNames.{set_names}
+use Rattle.fcg_join.specs.SetNames.{set_names}
 use Rattle.fcg_join.specs.Internal.TypeHeads.{IsHead, no_head}
 use Rattle.fcg_join.specs.TypeTables.{own_mentions}
 use Rattle.fcg_join.proofs.CollectedLaws.{mapped_next, mapped_all}

@@ -1,7 +1,7 @@
 use Rattle.std.proofs.Common.{◌∙◌}
 use Rattle.std.specs.Prelude.{map}
 use Rattle.fcg_grammar.specs.Table.{place}
-use Rattle.fcg_join.specs.Internal.PartNames.{part_names, set_names}
+use Rattle.fcg_join.specs.SetNames.{part_names, set_names}
 use Rattle.fcg_join.proofs.CollectedLaws.{mapped_next}
 use Rattle.fcg_join.proofs.PartNameLaws.{cut_long, cut_front, cut_back}
 use Rattle.fcg_join.proofs.part_names.cut_rows.Goals as goal

@@ -1,7 +1,8 @@
 use Rattle.std.proofs.Common.{◌≡◌, take, drop}
 use Rattle.std.specs.Prelude.{map}
 use Rattle.fcg_grammar.specs.Table.{place}
-use Rattle.fcg_join.specs.Internal.PartNames.{all_names, set_names, names_by_number}
+use Rattle.fcg_join.specs.SetNames.{all_names, set_names}
+use Rattle.fcg_join.specs.Internal.PartNames.{names_by_number}
 use Rattle.fcg_join.proofs.part_names.cut_rows.Given as goal
 
 abbrev pub invariant-loop-i : goal.invariant-loop-i

@@ -3,7 +3,8 @@ use Rattle.std.specs.Prelude.{All, map}
 use Rattle.std.proofs.lemmas.List.{length-map}
 use Rattle.fcg_grammar.specs.Table.{table, place}
 use Rattle.fcg_join.specs.Names.{texts_of}
-use Rattle.fcg_join.specs.Internal.PartNames.{all_names, set_names, no_place, name_there}
+use Rattle.fcg_join.specs.SetNames.{all_names, set_names}
+use Rattle.fcg_join.specs.Internal.PartNames.{no_place, name_there}
 use Rattle.fcg_join.specs.declared.part_names.NamePlace.{NamePlace}
 use Rattle.fcg_join.proofs.PartNameLaws.{all_places, all_texts, picked_there, picked_are}
 use Rattle.fcg_join.proofs.part_names.number_part_names.Goals as goal

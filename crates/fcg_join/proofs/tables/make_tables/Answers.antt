@@ -3,7 +3,7 @@ use Rattle.std.specs.Prelude.{IfSome}
 use Rattle.fcg_analysis.proofs.WinnerLaws.{known_distinct}
 use Rattle.fcg_join.specs.declared.heads.TypeHead.{TypeHead}
 use Rattle.fcg_join.specs.Parts.{placed, types_of}
-use Rattle.fcg_join.specs.Internal.PartNames.{set_names}
+use Rattle.fcg_join.specs.SetNames.{set_names}
 use Rattle.fcg_join.specs.Internal.TypeHeads.{IsHead}
 use Rattle.fcg_join.specs.Internal.TypeNumbers.{AreHeads, FindsHeads}
 use Rattle.fcg_join.specs.Internal.Tables.{superclasses_of}
@@ -11,6 +11,7 @@ use Rattle.fcg_join.proofs.ZipLaws.{zip_long}
 use Rattle.fcg_join.proofs.HeadLaws.{all_used_below}
 use Rattle.fcg_join.proofs.JoinLaws.{are_few, few_known, few_set_names}
 use Rattle.fcg_join.proofs.JoinedLaws.{gives_object}
+use Rattle.fcg_join.proofs.TableAnswers.{many_made, superclasses_made}
 use Rattle.fcg_analysis.proofs.NodePlaces.{count_is}
 use Rattle.fcg_join.specs.Internal.Nodes.{HaveMethods}
 use Rattle.fcg_join.proofs.NodeTableLaws.{few_methods, have_methods}
@@ -74,6 +75,7 @@ returns c =
       apart = c.tell_parts.ensures;
       few_nodes = (let m = few_methods parts in let n = count_is (types_of parts) in omega (arith, c.requires));
       inherited' = c.in_ok-inherited.ensures;
+      signatures' = c.in_ok-signatures.ensures;
       nodes' = c.in_ok-nodes.ensures (types_of parts) (subst (λ (hs : List TypeHead). HaveMethods hs (types_of parts)) (sym c.as_slice-5.ensures.value) (have_methods parts heads (types_of parts) c.in_ok-heads.ensures.value));
     }
 
@@ -110,3 +112,38 @@ find_inherited-requires-clause-links c =
     let parts = c.args.parts.now in
     let are : AreHeads parts c.as_slice.result.now (types_of parts) = subst (λ (hs : List TypeHead). AreHeads parts hs (types_of parts)) (sym c.as_slice.ensures.value) c.in_ok-heads.ensures.value in
     c.in_ok-linked.ensures.links (types_of parts) are (known_distinct (placed parts))
+
+pub find_inherited-requires-clause-few_names : goal.find_inherited-requires-clause-few_names
+find_inherited-requires-clause-few_names c =
+    let f = are_few c.args.parts.now in
+    let n = few_set_names c.args.parts.now in
+    omega (arith, f.names_few, c.requires)
+
+made : (c : goal.After-as_slice-7) → c.as_slice-7.result.now ≡ superclasses_of c.in_ok-heads.heads.items c.in_ok-linked.linked.by_name.items
+made c =
+    c.as_slice-7.ensures.value ∙ c.in_ok-superclasses.ensures ∙ ap (λ (hs : List TypeHead). superclasses_of hs c.as_slice-3.result.now) c.as_slice-2.ensures.value
+    ∙ ap (superclasses_of c.in_ok-heads.heads.items) c.as_slice-3.ensures.value
+
+finds : (c : goal.After-as_slice-7) → FindsHeads c.in_ok-heads.heads.items c.in_ok-linked.linked.by_name.items (length (set_names c.args.parts.now))
+finds c = subst (λ (hs : List TypeHead). FindsHeads hs c.in_ok-linked.linked.by_name.items (length (set_names c.args.parts.now))) c.as_slice.ensures.value c.in_ok-linked.ensures.by_name
+
+pub find_inherited-requires-clause-many : goal.find_inherited-requires-clause-many
+find_inherited-requires-clause-many c = many_made c.args.parts.now c.in_ok-heads.heads.items c.in_ok-linked.linked.by_name.items c.in_ok-heads.ensures.value (finds c) c.as_slice-7.result.now (made c)
+
+pub find_inherited-requires-clause-superclasses : goal.find_inherited-requires-clause-superclasses
+find_inherited-requires-clause-superclasses c = superclasses_made c.args.parts.now c.in_ok-heads.heads.items c.in_ok-linked.linked.by_name.items c.in_ok-heads.ensures.value (finds c) c.as_slice-7.result.now (made c)
+
+pub number_signatures-requires-clause-heads : goal.number_signatures-requires-clause-heads
+number_signatures-requires-clause-heads c =
+    subst (λ (hs : List TypeHead). AreHeads c.args.parts.now hs (types_of c.args.parts.now)) (sym c.as_slice-8.ensures.value) c.in_ok-heads.ensures.value
+
+pub number_signatures-requires-clause-nodes : goal.number_signatures-requires-clause-nodes
+number_signatures-requires-clause-nodes c =
+    let parts = c.args.parts.now in
+    c.in_ok-nodes.ensures (types_of parts) (subst (λ (hs : List TypeHead). HaveMethods hs (types_of parts)) (sym c.as_slice-5.ensures.value) (have_methods parts c.in_ok-heads.heads.items (types_of parts) c.in_ok-heads.ensures.value))
+
+pub number_signatures-requires-clause-few : goal.number_signatures-requires-clause-few
+number_signatures-requires-clause-few c =
+    let m = few_methods c.args.parts.now in
+    let n = count_is (types_of c.args.parts.now) in
+    omega (arith, c.requires)

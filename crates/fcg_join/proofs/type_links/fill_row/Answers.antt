@@ -2,7 +2,7 @@ use Rattle.std.proofs.Common.{◌≡◌, ℕ, ◌<◌, ◌++◌, sym, ap, subst,
 use Rattle.std.specs.Prelude.{option_to_list, IfSome}
 use Rattle.std.proofs.lemmas.Result.{on_ok_weaker}
 use Rattle.fcg_analysis.specs.Declarations.{interface_names}
-use Rattle.fcg_join.specs.Internal.PartNames.{set_names}
+use Rattle.fcg_join.specs.SetNames.{set_names}
 use Rattle.fcg_join.specs.Internal.TypeNumbers.{superclass_numbered, interfaces_numbered}
 use Rattle.fcg_join.proofs.HeadLaws.{used_below, used_is}
 use Rattle.fcg_join.proofs.type_links.fill_row.Goals as goal

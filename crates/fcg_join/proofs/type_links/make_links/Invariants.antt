@@ -1,7 +1,7 @@
 use Rattle.std.proofs.Common.{◌≡◌, List, take}
 use Rattle.std.specs.Prelude.{map}
 use Rattle.fcg_analysis.specs.Declarations.{Placed}
-use Rattle.fcg_join.specs.Internal.PartNames.{set_names}
+use Rattle.fcg_join.specs.SetNames.{set_names}
 use Rattle.fcg_join.specs.Internal.TypeNumbers.{AreHeads, links_numbered}
 use Rattle.fcg_join.proofs.type_links.make_links.Given as goal
 

@@ -3,7 +3,7 @@ use Rattle.std.specs.Prelude.{option_to_list}
 use Rattle.fcg_grammar.specs.Table.{place}
 use Rattle.fcg_grammar.proofs.Among.{among_left, among_right}
 use Rattle.fcg_views.specs.NamesIn.{names_of_super}
-use Rattle.fcg_join.specs.Internal.PartNames.{part_names}
+use Rattle.fcg_join.specs.SetNames.{part_names}
 use Rattle.fcg_join.specs.Internal.TypeNumbers.{interface_numbered, interfaces_numbered}
 use Rattle.fcg_join.proofs.CollectedLaws.{flat_next, flat_all}
 use Rattle.fcg_join.proofs.GraphRows.{item, among_item, named, numbered}

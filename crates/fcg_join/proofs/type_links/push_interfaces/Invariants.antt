@@ -2,7 +2,7 @@ use Rattle.std.proofs.Common.{◌≡◌, ℕ, List, ◌++◌, drop}
 use Rattle.std.specs.Prelude.{map}
 use Rattle.fcg_grammar.specs.Table.{place}
 use Rattle.fcg_views.specs.declared.view.View.{View}
-use Rattle.fcg_join.specs.Internal.PartNames.{part_names}
+use Rattle.fcg_join.specs.SetNames.{part_names}
 use Rattle.fcg_join.specs.Internal.PartRows.{HasView}
 use Rattle.fcg_join.specs.Internal.TypeNumbers.{interfaces_numbered}
 use Rattle.fcg_join.proofs.type_links.push_interfaces.Given as goal

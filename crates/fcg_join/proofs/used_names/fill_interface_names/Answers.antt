@@ -5,7 +5,7 @@ use Rattle.std.proofs.lemmas.Result.{on_ok_weaker}
 use Rattle.fcg_grammar.specs.Table.{place}
 use Rattle.fcg_partial.specs.Parts.{PartShown}
 use Rattle.fcg_analysis.specs.Declarations.{interface_names}
-use Rattle.fcg_join.specs.Internal.PartNames.{set_names, part_names}
+use Rattle.fcg_join.specs.SetNames.{set_names, part_names}
 use Rattle.fcg_join.specs.Internal.PartRows.{HasView}
 use Rattle.fcg_join.proofs.HeadLaws.{row_there, own_interfaces}
 use Rattle.fcg_join.proofs.used_names.fill_interface_names.Goals as goal

@@ -3,7 +3,7 @@ use Rattle.std.specs.Prelude.{map}
 use Rattle.fcg_grammar.specs.Table.{place}
 use Rattle.fcg_grammar.proofs.Among.{among_left, among_right}
 use Rattle.fcg_views.specs.NamesIn.{names_of_super}
-use Rattle.fcg_join.specs.Internal.PartNames.{part_names}
+use Rattle.fcg_join.specs.SetNames.{part_names}
 use Rattle.fcg_join.proofs.CollectedLaws.{more_next, more_all}
 use Rattle.fcg_join.proofs.GraphRows.{item, among_item, named, numbered}
 use Rattle.fcg_join.proofs.used_names.push_interface_names.Goals as goal

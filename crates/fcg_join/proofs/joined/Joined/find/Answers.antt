@@ -7,7 +7,8 @@ use Rattle.fcg_grammar.proofs.TableLaws.{table_rises}
 use Rattle.fcg_partial.specs.Parts.{PartShown}
 use Rattle.fcg_analysis.specs.Types.{type_named}
 use Rattle.fcg_join.specs.Parts.{types_of}
-use Rattle.fcg_join.specs.Internal.PartNames.{all_names, set_names, name_there}
+use Rattle.fcg_join.specs.SetNames.{all_names, set_names}
+use Rattle.fcg_join.specs.Internal.PartNames.{name_there}
 use Rattle.fcg_join.specs.Joined.{IsTypeNumber}
 use Rattle.fcg_join.specs.Internal.Tables.{IsJoined}
 use Rattle.fcg_join.proofs.TableAnswers.{named_there, unnamed_there, in_range, names_here}

@@ -4,7 +4,7 @@ use Rattle.std.proofs.lemmas.Option.{slice_get_within}
 use Rattle.fcg_partial.specs.Parts.{PartShown}
 use Rattle.fcg_join.specs.declared.heads.TypeHead.{TypeHead}
 use Rattle.fcg_join.specs.Parts.{types_of}
-use Rattle.fcg_join.specs.Internal.PartNames.{set_names}
+use Rattle.fcg_join.specs.SetNames.{set_names}
 use Rattle.fcg_join.specs.Internal.TypeHeads.{IsHead, IsFirstHead, no_head}
 use Rattle.fcg_join.specs.Internal.Tables.{IsJoined}
 use Rattle.fcg_join.proofs.TableAnswers.{heads_many, head_there}

@@ -1,7 +1,7 @@
 use Rattle.std.proofs.Common.{List, sym, subst, ◌∙◌}
 use Rattle.fcg_partial.specs.Parts.{PartShown}
 use Rattle.fcg_join.specs.Parts.{types_of}
-use Rattle.fcg_join.specs.Internal.PartNames.{set_names}
+use Rattle.fcg_join.specs.SetNames.{set_names}
 use Rattle.fcg_join.specs.Internal.TypeHeads.{IsHead}
 use Rattle.fcg_join.proofs.GraphRows.{item}
 use Rattle.fcg_join.proofs.joined.Joined.named_superclass.Goals as goal

@@ -1,0 +1,10 @@
+use Rattle.std.proofs.Common.{rules}
+use Rattle.std.proofs.lemmas.List.Sorted.{answers_always}
+use Rattle.fcg_join.proofs.signatures.sort_keys.Goals as goal
+
+pub returns : goal.returns
+returns c = record {
+  permutation = c.sort_by_key.ensures.permutation;
+  sorted = c.in_ok-sort_by_key.ensures.sorted (λ k. k.0) (answers_always _ _ _ (λ f a r g h. search rules));
+  stable = c.sort_by_key.ensures.stable (λ k. k.0) (answers_always _ _ _ (λ f a r g h. search rules));
+}

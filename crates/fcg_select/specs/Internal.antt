@@ -1,0 +1,3 @@
+-- Words of the contracts of private functions: no public contract needs them.
+pub mod Wanted
+pub mod Target

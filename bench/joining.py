@@ -1,7 +1,7 @@
 #!/usr/bin/env python3
 """Times the joining of stored graphs: the modules of a JDK, and these with the jars of the machine.
 
-The program of bench/joining/main.rt reads a bundle for each module and each jar, makes their graphs and joins them. It is
+The program of bench/joining_program.txt reads a bundle for each module and each jar, makes their graphs and joins them. It is
 built, with its proof, in a copy of the repository (--copy keeps the copy, and takes it where it is there). Printed are the
 known types and methods, which must be as many as this script counts by itself, the least milliseconds of some runs that
 joining took, beside those of list over the same bundles, and the peak of memory that it took above the graphs.
@@ -36,7 +36,8 @@ def build(copy):
     with open(os.path.join(copy, "crates.txt"), "a", encoding="utf-8") as sink:
         sink.write(CRATE)
     folder = os.path.join(copy, "crates", "fcg_joining")
-    shutil.copytree(os.path.join(measure.TOP, "bench", "joining"), os.path.join(folder, "src"))
+    os.makedirs(os.path.join(folder, "src"))
+    shutil.copy(os.path.join(measure.TOP, "bench", "joining_program.txt"), os.path.join(folder, "src", "main.rt"))
     done = subprocess.run(["rt", "run"], cwd=folder, stdin=subprocess.DEVNULL, stdout=subprocess.PIPE,
                           stderr=subprocess.STDOUT, check=False)
     if not os.path.exists(program):

@@ -39,6 +39,30 @@ const CASES: &[Case<'static>] = &[
         &["p/A", "p/I"],
         &["p/J"],
     ),
+    // a class that is named as the superclass and as an interface
+    (
+        "class java/lang/Object class p/A extends p/N implements p/N class p/N",
+        "p/A",
+        false,
+        &["p/A", "p/N"],
+        &["p/T"],
+    ),
+    // a superclass that is an interface
+    (
+        "class java/lang/Object class p/A extends p/I interface p/I",
+        "p/A",
+        true,
+        &["p/A", "java/lang/Object"],
+        &["p/I"],
+    ),
+    // an absent superclass of the class above, and an absent interface of an interface above
+    (
+        "class java/lang/Object class p/A extends p/B implements p/I class p/B extends x/S interface p/I implements x/I",
+        "p/A",
+        true,
+        &["p/A", "p/B", "p/I", "x/S", "x/I"],
+        &["x/T"],
+    ),
     // Object isn't known
     (
         "class p/A implements p/I interface p/I",

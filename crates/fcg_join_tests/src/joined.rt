@@ -166,6 +166,46 @@ const SETS: &[Set] = &[
             ("p/I", None, None, None),
         ],
     ),
+    // the first p/A stands in a circle, and a later one doesn't
+    (
+        &[
+            ("g:a:1", "class p/A extends p/B class p/B extends p/A"),
+            ("g:b:1", "class p/A static m()V class p/T"),
+        ],
+        1,
+        0,
+        &[("p/A", None, None, None), ("p/T", Some(0), None, None)],
+    ),
+    // the first Object is an interface
+    (
+        &[
+            ("g:a:1", "interface java/lang/Object pub m()V"),
+            (
+                "g:b:1",
+                "class java/lang/Object pub n()V class p/A extends java/lang/Object implements java/lang/Object class p/B",
+            ),
+        ],
+        3,
+        1,
+        &[
+            ("java/lang/Object", Some(0), None, None),
+            ("p/A", Some(1), None, None),
+            ("p/B", Some(2), None, None),
+        ],
+    ),
+    // one release twice
+    (
+        &[
+            ("g:a:1", "class p/A static m()V class p/B extends p/A"),
+            ("g:a:1", "class p/A static m()V class p/B extends p/A"),
+        ],
+        2,
+        1,
+        &[
+            ("p/A", Some(0), None, None),
+            ("p/B", Some(1), Some(0), Some(0)),
+        ],
+    ),
 ];
 
 // Whether the type of a name has these numbers.

@@ -100,8 +100,10 @@ impl Joined {
     /// Joins the parts, of which the first that has a type decides. Their encodings have at most 268,435,456 bytes in sum,
     /// which `fits` tells.
     ///
-    /// It shares the graphs. It goes over the tables of the parts a few times, and sorts the names of all parts once.
-    /// Circles of any length are found by one search without recursion.
+    /// It shares the graphs. It goes over the tables of the parts a few times, and sorts the names of all parts once and the
+    /// signatures of all methods once. For each type it takes time and 8 bytes, 12 meanwhile, for each name of an interface
+    /// at or above it and each absent name that these use, which are 67,108,864 in sum at most. Circles of any length are
+    /// found by one search without recursion.
     pub fn new(alloc: Global, parts: &Parts) -> Result<Joined, NoMemory>
         requires { encoded_len parts.now ≤ 268435456 }
         ensures { IfOk result (λ j. j ≡ parts.now) }

@@ -127,3 +127,22 @@ fn lists_types_below(rt: HostRuntime) -> Result<(), Fail> {
     assert!(rt; classes && absent && none && object);
     Ok(())
 }
+
+// Two classes that extend each other, and one that extends the first of them.
+const CIRCULAR: &[(&str, &str)] = &[
+    ("g:a:1", "class p/A extends p/B pub m()V"),
+    ("g:b:1", "class p/B extends p/A"),
+    (
+        "g:c:1",
+        "class p/C extends p/A pub m()V class p/T static t()V [ virtual p/A.m()V ]",
+    ),
+];
+
+#[test]
+fn lists_types_below_circular_ones(rt: HostRuntime) -> Result<(), Fail> {
+    let joined = join(rt.alloc(), CIRCULAR)?;
+    let circular = has_below(rt.alloc(), &joined, "p/A", &["p/C"])?;
+    let object = has_below(rt.alloc(), &joined, "java/lang/Object", &["p/C", "p/T"])?;
+    assert!(rt; circular && object && has_gap(&joined, "p/C"));
+    Ok(())
+}

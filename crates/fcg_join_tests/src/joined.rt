@@ -342,3 +342,33 @@ fn tells_methods(rt: HostRuntime) -> Result<(), Fail> {
     assert!(rt; origins && declared && names);
     Ok(())
 }
+
+// Releases that both have p/X, with its flags and how many methods it has.
+const DOUBLED: &[(&[(&str, &str)], u16, u32)] = &[
+    (
+        &[
+            ("g:b:1", "class p/X static f()V static g()V"),
+            ("g:a:1", "interface p/X pub f()V"),
+        ],
+        0x0021,
+        2,
+    ),
+    (
+        &[
+            ("g:a:1", "interface p/X pub f()V"),
+            ("g:b:1", "class p/X static f()V static g()V"),
+        ],
+        0x0601,
+        1,
+    ),
+];
+
+#[test]
+fn tells_flags_of_the_first(rt: HostRuntime) -> Result<(), Fail> {
+    for (releases, flags, methods) in DOUBLED {
+        let joined = join(rt.alloc(), releases)?;
+        let first = flags_of(&joined, "p/X") == Some(*flags) && joined.method_count() == *methods;
+        assert!(rt; first && is_owned(&joined, 0, 0), "{releases:?}");
+    }
+    Ok(())
+}

@@ -1,4 +1,4 @@
-//! The tests of `fcg_join`, by its public calls alone.
+//! The tests of `fcg_join`, `fcg_resolve` and `fcg_select`, by their public calls alone.
 #![tactic(auto)]
 
 #[cfg(test)]
@@ -10,6 +10,12 @@ mod joined;
 #[cfg(test)]
 mod numbers;
 #[cfg(test)]
+mod outcomes;
+#[cfg(test)]
+mod selections;
+#[cfg(test)]
 mod signatures;
+#[cfg(test)]
+mod specials;
 #[cfg(test)]
 mod supers;

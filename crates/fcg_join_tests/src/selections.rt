@@ -1,0 +1,154 @@
+ghost use Rattle.std.specs.Prelude.{◌<◌, length};
+ghost use Rattle.fcg_join.specs.Parts.{types_of, nodes_of};
+ghost use Rattle.fcg_join.specs.Outcomes.{IfMethod};
+
+use crate::joined::join;
+use crate::outcomes::{Target, new_ref, resolve_named};
+use fcg_join::{Joined, MethodId, Outcome, TypeId};
+use fcg_select::{can_override, is_instance_of, select, select_as};
+use fcg_views::Ref;
+use std::test::Fail;
+
+// The number of the method that is selected, by the names and by the number of the signature.
+fn select_both(
+    joined: &Joined,
+    receiver: TypeId,
+    outcome: Outcome,
+    name: &[u8],
+    desc: &[u8],
+) -> Option<(Option<MethodId>, Option<MethodId>)>
+    requires there { receiver.0 < length (types_of joined.now) }
+    requires range { IfMethod outcome (λ m. m.0 < length (nodes_of joined.now)) }
+{
+    if !is_instance_of(joined, outcome, name, desc) {
+        return None;
+    }
+    let named = select(joined, receiver, outcome, name, desc);
+    let numbered = select_as(joined, receiver, outcome, joined.signature(name, desc));
+    Some((named, numbered))
+}
+
+// Whether for a class the reference takes this method.
+fn takes(joined: &Joined, reference: &Ref, class: &str, selected: Option<MethodId>) -> bool {
+    let outcome = resolve_named(joined, reference);
+    let Some(receiver) = joined.find(class.as_bytes()) else {
+        return false;
+    };
+    let (name, desc) = (reference.name.as_slice(), reference.desc.as_slice());
+    select_both(joined, receiver, outcome, name, desc) == Some((selected, selected))
+}
+
+const PACKAGES: &str =
+    "class p/A package m()V class p/B extends p/A pub m()V class q/C extends p/B pub m()V \
+     class q/D extends p/A pub m()V class p/T static t()V [ virtual p/A.m()V ]";
+
+const TWO_DEFAULTS: &str = "interface p/I pub m()V interface p/J pub m()V \
+     class p/K implements p/I implements p/J class p/T static t()V [ virtual p/K.m()V ]";
+
+const ONE_DEFAULT: &str = "interface p/I pub m()V interface p/J abs m()V \
+     class p/K implements p/I implements p/J class p/T static t()V [ virtual p/K.m()V ]";
+
+const DEFAULT_BELOW: &str = "interface p/I pub m()V interface p/J pub m()V \
+     interface p/L implements p/I implements p/J pub m()V class p/K implements p/L \
+     class p/T static t()V [ virtual p/K.m()V ]";
+
+const PRIVATE_AND_STATIC: &str = "class p/A pub m()V class p/B extends p/A private m()V \
+     class p/C extends p/A static m()V class p/T static t()V [ virtual p/A.m()V ]";
+
+const A_METHOD: Target = ("p/A", false, "m", "()V");
+
+const K_METHOD: Target = ("p/K", false, "m", "()V");
+
+// Types, a reference, and what it takes for classes.
+type Case = (
+    &'static str,
+    Target,
+    &'static [(&'static str, Option<MethodId>)],
+);
+
+const CASES: &[Case] = &[
+    // q/C overrides what p/B hands on, and q/D nothing
+    (
+        PACKAGES,
+        A_METHOD,
+        &[
+            ("p/A", Some(MethodId(0))),
+            ("p/B", Some(MethodId(1))),
+            ("q/C", Some(MethodId(2))),
+            ("q/D", Some(MethodId(0))),
+            ("p/T", None),
+        ],
+    ),
+    (TWO_DEFAULTS, K_METHOD, &[("p/K", None)]),
+    (ONE_DEFAULT, K_METHOD, &[("p/K", Some(MethodId(0)))]),
+    (DEFAULT_BELOW, K_METHOD, &[("p/K", Some(MethodId(2)))]),
+    // what is private or static is passed over
+    (
+        PRIVATE_AND_STATIC,
+        A_METHOD,
+        &[
+            ("p/A", Some(MethodId(0))),
+            ("p/B", Some(MethodId(0))),
+            ("p/C", Some(MethodId(0))),
+        ],
+    ),
+    // a private resolved method is taken itself
+    (
+        PRIVATE_AND_STATIC,
+        ("p/B", false, "m", "()V"),
+        &[("p/A", Some(MethodId(1))), ("p/B", Some(MethodId(1)))],
+    ),
+    // a phantom is overridden by what is open
+    (
+        PRIVATE_AND_STATIC,
+        ("x/Absent", false, "m", "()V"),
+        &[("p/B", Some(MethodId(0))), ("p/T", None)],
+    ),
+];
+
+#[test]
+fn selects(rt: HostRuntime) -> Result<(), Fail> {
+    for (types, target, rows) in CASES {
+        let joined = join(rt.alloc(), &[("g:a:1", *types)])?;
+        let reference = new_ref(rt.alloc(), target)?;
+        for (class, selected) in *rows {
+            assert!(rt;
+                takes(&joined, &reference, class, *selected),
+                "{types} {class}"
+            );
+        }
+    }
+    Ok(())
+}
+
+// Whether of two methods the first can override the second.
+fn overrides(joined: &Joined, over: u32, under: u32) -> bool {
+    over < joined.method_count()
+        && under < joined.method_count()
+        && can_override(joined, MethodId(over), MethodId(under))
+}
+
+// Of these types' methods each pair of which the first can override the second.
+const OVERRIDES: &[(&str, &[(u32, u32)], &[(u32, u32)])] = &[
+    (
+        PACKAGES,
+        &[(0, 0), (1, 0), (2, 0), (0, 1), (2, 1), (3, 1)],
+        &[(3, 0), (4, 0), (0, 4)],
+    ),
+    (
+        PRIVATE_AND_STATIC,
+        &[(0, 0)],
+        &[(1, 0), (2, 0), (0, 1), (1, 1), (0, 2)],
+    ),
+];
+
+#[test]
+fn tells_overriding(rt: HostRuntime) -> Result<(), Fail> {
+    for (types, pairs, others) in OVERRIDES {
+        let joined = join(rt.alloc(), &[("g:a:1", *types)])?;
+        let all = pairs.iter().all(|pair| overrides(&joined, pair.0, pair.1));
+        let any = others.iter().any(|pair| overrides(&joined, pair.0, pair.1));
+        assert!(rt; all && !any, "{types}");
+    }
+    Ok(())
+}

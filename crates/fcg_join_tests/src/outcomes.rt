@@ -206,17 +206,36 @@ const OUTCOMES: &[(&[(&str, &str)], &[(Target, Outcome)])] = &[
     ),
 ];
 
+// Whether a reference stands for an outcome.
+fn stands_for(
+    alloc: Global,
+    joined: &Joined,
+    target: &Target,
+    outcome: Outcome,
+) -> Result<bool, Fail> {
+    let reference = new_ref(alloc, target)?;
+    Ok(is_outcome(joined, &reference, target, outcome))
+}
+
+// Whether in a set all references stand for their outcomes.
+fn all_stand(
+    alloc: Global,
+    releases: &[(&str, &str)],
+    rows: &[(Target, Outcome)],
+) -> Result<bool, Fail> {
+    let joined = join(alloc, releases)?;
+    let mut all = true;
+    for row in rows {
+        all = stands_for(alloc, &joined, &row.0, row.1)? && all;
+    }
+    Ok(all)
+}
+
 #[test]
 fn resolves(rt: HostRuntime) -> Result<(), Fail> {
     for (releases, rows) in OUTCOMES {
-        let joined = join(rt.alloc(), releases)?;
-        for (target, outcome) in *rows {
-            let reference = new_ref(rt.alloc(), target)?;
-            assert!(rt;
-                is_outcome(&joined, &reference, target, *outcome),
-                "{target:?}"
-            );
-        }
+        let all = all_stand(rt.alloc(), releases, rows)?;
+        assert!(rt; all, "{releases:?}");
     }
     Ok(())
 }
@@ -236,14 +255,24 @@ fn both_fail(joined: &Joined, first: &Ref, second: &Ref) -> bool {
     fail_both::<Brand>(joined, first, second, Blank::new(1))
 }
 
+// Whether two references of a set fail, each for its kind.
+fn count_two(
+    alloc: Global,
+    releases: &[(&str, &str)],
+    first: &Target,
+    second: &Target,
+) -> Result<bool, Fail> {
+    let joined = join(alloc, releases)?;
+    let first = new_ref(alloc, first)?;
+    let second = new_ref(alloc, second)?;
+    Ok(both_fail(&joined, &first, &second))
+}
+
 #[test]
 fn counts_one_step_each(rt: HostRuntime) -> Result<(), Fail> {
-    let joined = join(rt.alloc(), LOGGING)?;
-    let first = new_ref(rt.alloc(), &("log/Factory", true, "get", "()Llog/Logger;"))?;
-    let second = new_ref(
-        rt.alloc(),
-        &("log/Logger", false, "info", "(Ljava/lang/String;)V"),
-    )?;
-    assert!(rt; both_fail(&joined, &first, &second));
+    let first = ("log/Factory", true, "get", "()Llog/Logger;");
+    let second = ("log/Logger", false, "info", "(Ljava/lang/String;)V");
+    let both = count_two(rt.alloc(), LOGGING, &first, &second)?;
+    assert!(rt; both);
     Ok(())
 }

@@ -7,6 +7,7 @@ use crate::outcomes::{Target, new_ref, resolve_named};
 use fcg_join::{Joined, MethodId, Outcome, TypeId};
 use fcg_select::{can_override, is_instance_of, select, select_as};
 use fcg_views::Ref;
+use std::alloc::Global;
 use std::test::Fail;
 
 // The number of the method that is selected, by the names and by the number of the signature.
@@ -106,17 +107,26 @@ const CASES: &[Case] = &[
     ),
 ];
 
+// Whether for each of some classes the reference takes the class's method.
+fn all_take(
+    alloc: Global,
+    types: &str,
+    target: &Target,
+    rows: &[(&str, Option<MethodId>)],
+) -> Result<bool, Fail> {
+    let joined = join(alloc, &[("g:a:1", types)])?;
+    let reference = new_ref(alloc, target)?;
+    Ok(
+        rows.iter()
+            .all(|row| takes(&joined, &reference, row.0, row.1)),
+    )
+}
+
 #[test]
 fn selects(rt: HostRuntime) -> Result<(), Fail> {
     for (types, target, rows) in CASES {
-        let joined = join(rt.alloc(), &[("g:a:1", *types)])?;
-        let reference = new_ref(rt.alloc(), target)?;
-        for (class, selected) in *rows {
-            assert!(rt;
-                takes(&joined, &reference, class, *selected),
-                "{types} {class}"
-            );
-        }
+        let all = all_take(rt.alloc(), types, target, rows)?;
+        assert!(rt; all, "{types}");
     }
     Ok(())
 }
@@ -142,13 +152,24 @@ const OVERRIDES: &[(&str, &[(u32, u32)], &[(u32, u32)])] = &[
     ),
 ];
 
+// Whether the first of each of some pairs can override the second, and of none of the others.
+fn all_override(
+    alloc: Global,
+    types: &str,
+    pairs: &[(u32, u32)],
+    others: &[(u32, u32)],
+) -> Result<bool, Fail> {
+    let joined = join(alloc, &[("g:a:1", types)])?;
+    let all = pairs.iter().all(|pair| overrides(&joined, pair.0, pair.1));
+    let any = others.iter().any(|pair| overrides(&joined, pair.0, pair.1));
+    Ok(all && !any)
+}
+
 #[test]
 fn tells_overriding(rt: HostRuntime) -> Result<(), Fail> {
     for (types, pairs, others) in OVERRIDES {
-        let joined = join(rt.alloc(), &[("g:a:1", *types)])?;
-        let all = pairs.iter().all(|pair| overrides(&joined, pair.0, pair.1));
-        let any = others.iter().any(|pair| overrides(&joined, pair.0, pair.1));
-        assert!(rt; all && !any, "{types}");
+        let told = all_override(rt.alloc(), types, pairs, others)?;
+        assert!(rt; told, "{types}");
     }
     Ok(())
 }

@@ -1,5 +1,5 @@
 //! Stitching: the laws of the rows in which a stitched graph keeps the targets of its callers. The crate stands on the rules
-//! of the analysis and on joining.
+//! of the analysis.
 #![tactic(auto)]
 
 mod row_laws;

@@ -8,6 +8,7 @@ use fcg_join::{Joined, MethodId, Outcome, TypeId};
 use fcg_select::{can_override, is_instance_of, select, select_as};
 use fcg_views::Ref;
 use std::alloc::Global;
+use std::fmt::Write;
 use std::test::Fail;
 
 // The number of the method that is selected, by the names and by the number of the signature.
@@ -171,5 +172,44 @@ fn tells_overriding(rt: HostRuntime) -> Result<(), Fail> {
         let told = all_override(rt.alloc(), types, pairs, others)?;
         assert!(rt; told, "{types}");
     }
+    Ok(())
+}
+
+// Object, and so many classes of two packages in turn, each of which extends the one before and declares a package-private
+// method.
+fn two_packages(alloc: Global, count: u32) -> Result<String, Fail> {
+    let mut text = String::new(alloc);
+    write!(text, "class java/lang/Object class p/C0 package m()V")?;
+    for number in 1..count {
+        let before = number - 1;
+        let (own, other) = if number % 2 == 0 {
+            ("p", "q")
+        } else {
+            ("q", "p")
+        };
+        write!(
+            text,
+            " class {own}/C{number} extends {other}/C{before} package m()V"
+        )?;
+    }
+    Ok(text)
+}
+
+const C_METHOD: Target = ("p/C0", false, "m", "()V");
+
+const DEEP: &[(&str, Option<MethodId>)] = &[
+    ("p/C0", Some(MethodId(0))),
+    ("q/C1", Some(MethodId(0))),
+    ("p/C998", Some(MethodId(998))),
+    ("q/C999", Some(MethodId(998))),
+];
+
+#[test]
+fn selects_in_deep_hierarchies(rt: HostRuntime) -> Result<(), Fail> {
+    let text = two_packages(rt.alloc(), 1_000)?;
+    let selected = all_take(rt.alloc(), text.as_str(), &C_METHOD, DEEP)?;
+    let pairs = &[(2, 0), (998, 0), (999, 1)];
+    let overridden = all_override(rt.alloc(), text.as_str(), pairs, &[(1, 0), (999, 0)])?;
+    assert!(rt; selected && overridden);
     Ok(())
 }

@@ -1,4 +1,4 @@
-use Rattle.fcg_join.proofs.SelSelecting.{instance_by_names}
+use Rattle.fcg_select.proofs.Selecting.{instance_by_names}
 use Rattle.fcg_join_tests.proofs.selections.select_both.Goals as goal
 
 pub select_as-numbered-requires-clause-method : goal.select_as-numbered-requires-clause-method

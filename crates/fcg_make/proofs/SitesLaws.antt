@@ -76,8 +76,8 @@ own_after at (t ∷ ts) placed =
     split le rest (inr other) = rw other (le, rest)
 
 group_after : (at : ℕ) (first : Site) (ss : List Site) → at ≤ first.pc → AllByRecursion (IsJoined first) ss → After at ss
-group_after at first [] le concat_sites = tt
-group_after at first (s ∷ ss) le concat_sites = (let same = concat_sites.0.place in omega (arith, same, le), group_after at first ss le concat_sites.1)
+group_after at first [] le joined = tt
+group_after at first (s ∷ ss) le joined = (let same = joined.0.place in omega (arith, same, le), group_after at first ss le joined.1)
 
 handles_after : (at : ℕ) (ts : List Step) → is_placed_from at ts ≡ true → AllByRecursion IsGoodStep ts → After at (flat_map sites_of (calls ts))
 handles_after at [] placed good = tt
@@ -88,7 +88,7 @@ handles_after at (t ∷ ts) placed good =
     split le rest (at_bool (is_call t))
   where
     split : at ≤ t.first.pc → After at (flat_map sites_of (calls ts)) → (is_call t ≡ true) ⊎ (is_call t ≡ false) → After at (flat_map sites_of (calls (t ∷ ts)))
-    split le rest (inl call) = rw call (all_append (λ (s : Site). at ≤ s.pc) (sites_of t) (flat_map sites_of (calls ts)) (le, group_after at t.first t.more le good.0.concat_sites) rest)
+    split le rest (inl call) = rw call (all_append (λ (s : Site). at ≤ s.pc) (sites_of t) (flat_map sites_of (calls ts)) (le, group_after at t.first t.more le good.0.joined) rest)
     split le rest (inr other) = rw other rest
 
 not_lt : (a b : ℕ) → b ≤ a → nat_lt a b ≡ false
@@ -116,8 +116,8 @@ handles_first at (g ∷ gs) (s ∷ ss) hs early after =
     rw (is_lt g.pc s.pc (omega (arith, lt, le))) (ap (λ (l : List Site). g ∷ l) (handles_first at gs (s ∷ ss) hs early.1 after))
 
 group_early : (at : ℕ) (first : Site) (ss : List Site) → first.pc < at → AllByRecursion (IsJoined first) ss → AllByRecursion (λ g. g.pc < at) ss
-group_early at first [] lt concat_sites = tt
-group_early at first (s ∷ ss) lt concat_sites = (let same = concat_sites.0.place in omega (arith, same, lt), group_early at first ss lt concat_sites.1)
+group_early at first [] lt joined = tt
+group_early at first (s ∷ ss) lt joined = (let same = joined.0.place in omega (arith, same, lt), group_early at first ss lt joined.1)
 
 pub merged_all : (at : ℕ) (ts : List Step) → is_placed_from at ts ≡ true → AllByRecursion IsGoodStep ts → merged (own ts) (flat_map sites_of (calls ts)) ≡ flat_map sites_of ts
 merged_all at [] placed good = refl
@@ -130,7 +130,7 @@ merged_all at (t ∷ ts) placed good =
     split others rest (inl call) =
         let some = size_some t.first.kind in
         let lt : t.first.pc < t.first.pc + size_of t.first.kind = omega (arith, some) in
-        rw call (handles_first (t.first.pc + size_of t.first.kind) (sites_of t) (own ts) (flat_map sites_of (calls ts)) (lt, group_early (t.first.pc + size_of t.first.kind) t.first t.more lt good.0.concat_sites) (own_after (t.first.pc + size_of t.first.kind) ts others)
+        rw call (handles_first (t.first.pc + size_of t.first.kind) (sites_of t) (own ts) (flat_map sites_of (calls ts)) (lt, group_early (t.first.pc + size_of t.first.kind) t.first t.more lt good.0.joined) (own_after (t.first.pc + size_of t.first.kind) ts others)
         ∙ ap (λ (l : List Site). sites_of t ++ l) rest)
     split others rest (inr other) =
         let alone = good.0.alone other in

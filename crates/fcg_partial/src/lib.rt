@@ -4,6 +4,7 @@
 //! words of formats and on the views.
 #![tactic(auto)]
 
+mod derived;
 mod fault;
 mod graph;
 mod index;
@@ -23,6 +24,7 @@ mod shown;
 mod types;
 mod write;
 
+pub use derived::Derived;
 pub use fault::{RecordFault, RecordRule};
 pub use graph::PartialGraph;
 pub use laws::{graphs_show_valid_views, one_graph_each, reading_is_exact};

@@ -181,6 +181,7 @@ impl<'a> Pool<'a> {
 
     /// What the Fieldref, Methodref or InterfaceMethodref at an index names (JVMS 4.4.2), as texts. The error is the
     /// rule that the first of its indexes breaks: those of the owner come before those of the name and the descriptor.
+    #[inline(always)]
     #[tactic(auto, unfolding(fcg_classfile::specs::Breaks::Pool::reference_of))]
     pub fn reference_texts(&self, index: u16) -> Result<RefTexts<'a>, PoolRule>
         ensures value { seen reference_texts result ≡ reference_of self.now index }

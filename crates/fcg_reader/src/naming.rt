@@ -40,6 +40,19 @@ fn keep_number(numbers: &mut Vec<u16>, index: u16, number: u16)
     }
 }
 
+// How many names a view from rows has, which room is made for.
+fn count_names(rows: &ViewRows) -> usize {
+    let members = rows.fields.len().saturating_add(rows.methods.len());
+    let mut count = members
+        .saturating_mul(2)
+        .saturating_add(rows.interfaces.len())
+        .saturating_add(2);
+    for method in rows.methods.as_slice() {
+        count = count.saturating_add(method.sites.as_slice().len().saturating_mul(3));
+    }
+    count
+}
+
 // The names that were made of the texts of a pool, in the order in which they were made.
 #[derive(Drop)]
 struct Naming<'a> {
@@ -60,15 +73,17 @@ impl<'a> Model for Naming<'a> {
 }
 
 impl<'a> Naming<'a> {
-    // No name yet. It takes memory for the file's bytes and for each index of the pool.
-    fn new(alloc: Global, pool: &'a Pool<'a>) -> Result<Naming<'a>, NoMemory>
+    // No name yet. It takes memory for the file's bytes, for each index of the pool and for this many names.
+    fn new(alloc: Global, pool: &'a Pool<'a>, names: usize) -> Result<Naming<'a>, NoMemory>
         ensures { IfOk result (λ naming. naming ≡ record { pool = pool.now; list = record { block = pool.now.bytes; texts = []; numbers = [] } }) }
     {
         let file = Name::from_slice(alloc, pool.bytes())?;
         let numbers = unasked(alloc, pool.len() + 1)?;
+        let mut list = NameList::new(alloc, file);
+        list.reserve(pool.len() / 2, names)?;
         Ok(Naming {
             pool,
-            list: NameList::new(alloc, file),
+            list,
             numbers,
         })
     }
@@ -270,7 +285,7 @@ impl<'a> Naming<'a> {
 pub fn name_view(alloc: Global, pool: &Pool<'_>, rows: &ViewRows) -> Result<NumberedView, NoMemory>
     ensures { IfOk result (λ view. view ≡ view_in pool.now rows.now) }
 {
-    let mut naming = Naming::new(alloc, pool)?;
+    let mut naming = Naming::new(alloc, pool, count_names(rows))?;
     let view = naming.name_view(alloc, rows)?;
     Ok(NumberedView::new(view, naming.into_list()))
 }

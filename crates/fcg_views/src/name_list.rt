@@ -71,6 +71,15 @@ impl NameList {
         Ok(())
     }
 
+    /// Makes room for more texts and names, so that adding as many takes no more memory.
+    pub fn reserve(&mut self, texts: usize, names: usize) -> Result<(), AllocError>
+        ensures { self.new ≡ self.old }
+    {
+        self.texts.reserve(texts)?;
+        self.numbers.reserve(names)?;
+        Ok(())
+    }
+
     /// Gives back the memory that was taken for more texts and names.
     pub fn shrink_to_fit(&mut self)
         ensures { self.new ≡ self.old }

@@ -79,6 +79,7 @@ fn tells_valid_views(rt: HostRuntime) -> Result<(), Fail> {
 fn name_list(alloc: Global) -> Result<NameList, Fail> {
     let block = Name::from_slice(alloc, b"java/lang/Object")?;
     let mut names = NameList::new(alloc, block);
+    names.reserve(2, 3)?;
     let object = names.add_text(10, 6)?;
     let lang = names.add_text(5, 4)?;
     names.push(object)?;

@@ -1,75 +1,62 @@
-use crate::joined::join;
+use crate::sets::{Ask, holds};
 use fcg_join::Joined;
 use std::alloc::Global;
 use std::test::Fail;
 
-// The types of a release, one of these, whether it has a gap, names that it is at or below, and names that it isn't.
-type Case<'a> = (&'a str, &'a str, bool, &'a [&'a str], &'a [&'a str]);
+// A type, whether it has a gap, names that it is at or below, and names that it isn't.
+struct Above(
+    &'static str,
+    bool,
+    &'static [&'static str],
+    &'static [&'static str],
+);
 
-const CASES: &[Case<'static>] = &[
+// The types of a release, and what is above one of these.
+const CASES: &[(&str, Above)] = &[
     // an absent interface two links up
     (
         "class java/lang/Object class p/A extends p/B class p/B implements x/I",
-        "p/A",
-        true,
-        &["p/A", "p/B", "x/I", "java/lang/Object"],
-        &["p/C", "x/J"],
+        Above(
+            "p/A",
+            true,
+            &["p/A", "p/B", "x/I", "java/lang/Object"],
+            &["p/C", "x/J"],
+        ),
     ),
     // the names of Object aren't used
     (
         "class java/lang/Object implements x/I class p/A",
-        "p/A",
-        false,
-        &["p/A", "java/lang/Object"],
-        &["x/I"],
+        Above("p/A", false, &["p/A", "java/lang/Object"], &["x/I"]),
     ),
     // a class that is named as an interface
     (
         "class java/lang/Object class p/A implements p/K class p/K",
-        "p/A",
-        true,
-        &["p/A"],
-        &["p/K"],
+        Above("p/A", true, &["p/A"], &["p/K"]),
     ),
     // an interface that is named as the superclass and as an interface
     (
         "class java/lang/Object class p/A extends p/I implements p/I interface p/I",
-        "p/A",
-        false,
-        &["p/A", "p/I"],
-        &["p/J"],
+        Above("p/A", false, &["p/A", "p/I"], &["p/J"]),
     ),
     // a class that is named as the superclass and as an interface
     (
         "class java/lang/Object class p/A extends p/N implements p/N class p/N",
-        "p/A",
-        false,
-        &["p/A", "p/N"],
-        &["p/T"],
+        Above("p/A", false, &["p/A", "p/N"], &["p/T"]),
     ),
     // a superclass that is an interface
     (
         "class java/lang/Object class p/A extends p/I interface p/I",
-        "p/A",
-        true,
-        &["p/A", "java/lang/Object"],
-        &["p/I"],
+        Above("p/A", true, &["p/A", "java/lang/Object"], &["p/I"]),
     ),
     // an absent superclass of the class above, and an absent interface of an interface above
     (
         "class java/lang/Object class p/A extends p/B implements p/I class p/B extends x/S interface p/I implements x/I",
-        "p/A",
-        true,
-        &["p/A", "p/B", "p/I", "x/S", "x/I"],
-        &["x/T"],
+        Above("p/A", true, &["p/A", "p/B", "p/I", "x/S", "x/I"], &["x/T"]),
     ),
     // Object isn't known
     (
         "class p/A implements p/I interface p/I",
-        "p/A",
-        true,
-        &["p/A", "p/I", "java/lang/Object"],
-        &["p/J"],
+        Above("p/A", true, &["p/A", "p/I", "java/lang/Object"], &["p/J"]),
     ),
 ];
 
@@ -89,14 +76,20 @@ fn has_gap(joined: &Joined, name: &str) -> bool {
     }
 }
 
+impl Ask for Above {
+    fn holds(&self, _: Global, joined: &Joined) -> Result<bool, Fail> {
+        let told = has_gap(joined, self.0) == self.1;
+        let all = self.2.iter().all(|other| is_below(joined, self.0, other));
+        let none = !self.3.iter().any(|other| is_below(joined, self.0, other));
+        Ok(told && all && none)
+    }
+}
+
 #[test]
 fn tells_gaps_and_what_is_below(rt: HostRuntime) -> Result<(), Fail> {
-    for (types, name, gap, names, others) in CASES {
-        let joined = join(rt.alloc(), &[("g:a:1", *types)])?;
-        let told = has_gap(&joined, name) == *gap;
-        let all = names.iter().all(|other| is_below(&joined, name, other));
-        let none = !others.iter().any(|other| is_below(&joined, name, other));
-        assert!(rt; told && all && none, "{types}");
+    for (types, above) in CASES {
+        let told = holds(rt.alloc(), &[("g:a:1", *types)], above)?;
+        assert!(rt; told, "{types}");
     }
     Ok(())
 }
@@ -114,17 +107,35 @@ fn has_below(alloc: Global, joined: &Joined, name: &str, names: &[&str]) -> Resu
     Ok(same)
 }
 
+// Names, each with the types at or below it.
+struct Below(&'static [(&'static str, &'static [&'static str])]);
+
+impl Ask for Below {
+    fn holds(&self, alloc: Global, joined: &Joined) -> Result<bool, Fail> {
+        let mut all = true;
+        for row in self.0 {
+            all = has_below(alloc, joined, row.0, row.1)? && all;
+        }
+        Ok(all)
+    }
+}
+
+const LISTED: Below = Below(&[
+    ("p/A", &["p/C", "p/A"]),
+    ("x/I", &["p/C", "p/A"]),
+    ("x/J", &[]),
+    (
+        "java/lang/Object",
+        &["java/lang/Object", "p/C", "p/A", "p/J", "p/B"],
+    ),
+]);
+
 #[test]
 fn lists_types_below(rt: HostRuntime) -> Result<(), Fail> {
     let types =
         "class java/lang/Object class p/C extends p/A class p/A implements x/I interface p/J class p/B";
-    let joined = join(rt.alloc(), &[("g:a:1", types)])?;
-    let classes = has_below(rt.alloc(), &joined, "p/A", &["p/C", "p/A"])?;
-    let absent = has_below(rt.alloc(), &joined, "x/I", &["p/C", "p/A"])?;
-    let none = has_below(rt.alloc(), &joined, "x/J", &[])?;
-    let all = ["java/lang/Object", "p/C", "p/A", "p/J", "p/B"];
-    let object = has_below(rt.alloc(), &joined, "java/lang/Object", &all)?;
-    assert!(rt; classes && absent && none && object);
+    let listed = holds(rt.alloc(), &[("g:a:1", types)], &LISTED)?;
+    assert!(rt; listed);
     Ok(())
 }
 
@@ -138,11 +149,19 @@ const CIRCULAR: &[(&str, &str)] = &[
     ),
 ];
 
+const LISTED_BELOW_CIRCLES: Below = Below(&[
+    ("p/A", &["p/C"]),
+    ("java/lang/Object", &["p/C", "p/T"]),
+]);
+
 #[test]
 fn lists_types_below_circular_ones(rt: HostRuntime) -> Result<(), Fail> {
-    let joined = join(rt.alloc(), CIRCULAR)?;
-    let circular = has_below(rt.alloc(), &joined, "p/A", &["p/C"])?;
-    let object = has_below(rt.alloc(), &joined, "java/lang/Object", &["p/C", "p/T"])?;
-    assert!(rt; circular && object && has_gap(&joined, "p/C"));
+    let listed = holds(rt.alloc(), CIRCULAR, &LISTED_BELOW_CIRCLES)?;
+    let above = holds(
+        rt.alloc(),
+        CIRCULAR,
+        &Above("p/C", true, &["p/A"], &["p/B"]),
+    )?;
+    assert!(rt; listed && above);
     Ok(())
 }

@@ -1,4 +1,4 @@
-use crate::joined::join;
+use crate::sets::{Ask, holds};
 use fcg_join::Joined;
 use std::alloc::Global;
 use std::fmt::Write;
@@ -32,13 +32,27 @@ fn is_row(alloc: Global, joined: &Joined) -> Result<bool, Fail> {
     Ok(below && all == 10_000 && half == 5_000)
 }
 
+// Whether the types stand in a row, or are a circle of which none is known.
+enum Kept {
+    All,
+    None,
+}
+
+impl Ask for Kept {
+    fn holds(&self, alloc: Global, joined: &Joined) -> Result<bool, Fail> {
+        match self {
+            Kept::All => Ok(joined.type_count() == MANY + 1 && is_row(alloc, joined)?),
+            Kept::None => Ok(joined.type_count() == 1),
+        }
+    }
+}
+
 #[test]
 fn joins_long_chains(rt: HostRuntime) -> Result<(), Fail> {
     for (kind, link) in [("class", "extends"), ("interface", "implements")] {
         let text = row_of(rt.alloc(), kind, link, "java/lang/Object")?;
-        let joined = join(rt.alloc(), &[("g:a:1", text.as_str())])?;
-        let row = is_row(rt.alloc(), &joined)?;
-        assert!(rt; row && joined.type_count() == MANY + 1, "{kind}");
+        let row = holds(rt.alloc(), &[("g:a:1", text.as_str())], &Kept::All)?;
+        assert!(rt; row, "{kind}");
     }
     Ok(())
 }
@@ -47,8 +61,8 @@ fn joins_long_chains(rt: HostRuntime) -> Result<(), Fail> {
 fn drops_long_circles(rt: HostRuntime) -> Result<(), Fail> {
     for (kind, link) in [("class", "extends"), ("interface", "implements")] {
         let text = row_of(rt.alloc(), kind, link, "p/T9999")?;
-        let joined = join(rt.alloc(), &[("g:a:1", text.as_str())])?;
-        assert!(rt; joined.type_count() == 1, "{kind}");
+        let circle = holds(rt.alloc(), &[("g:a:1", text.as_str())], &Kept::None)?;
+        assert!(rt; circle, "{kind}");
     }
     Ok(())
 }

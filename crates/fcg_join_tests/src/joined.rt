@@ -1,49 +1,7 @@
-use fcg_cases::views_of;
+use crate::sets::{Ask, holds};
 use fcg_join::{Joined, MethodId, TypeId, TypeOrigin};
-use fcg_partial::{Part, PartialGraph, Parts};
-use fcg_views::{Coordinate, View, Views, is_valid};
 use std::alloc::Global;
-use std::sync::Arc;
 use std::test::Fail;
-
-// The graph of views.
-fn graph_of(alloc: Global, views: Vec<View>) -> Result<PartialGraph, Fail> {
-    let views = Views::from(views);
-    if !views.fits() || !views.as_slice().iter().all(|view| is_valid(view)) {
-        return Err("the views are valid".into());
-    }
-    Ok(
-        PartialGraph::from_views(alloc, views)
-            .ok()
-            .ok_or("no memory")?,
-    )
-}
-
-// A release with the types of a text in short form.
-fn part_of(alloc: Global, coordinate: &str, types: &str) -> Result<Part, Fail> {
-    let views = views_of(alloc, types).ok().ok_or("it is in short form")?;
-    let graph = graph_of(alloc, views)?;
-    let coordinate = Coordinate::parse(alloc, coordinate.as_bytes())
-        .ok()
-        .ok_or("it is a coordinate")?;
-    Ok(Part {
-        coordinate,
-        graph: Arc::new(alloc, graph)?,
-    })
-}
-
-// Releases, each a coordinate and its types, joined.
-pub(crate) fn join(alloc: Global, releases: &[(&str, &str)]) -> Result<Joined, Fail> {
-    let mut parts = Vec::new(alloc);
-    for (coordinate, types) in releases {
-        parts.push(part_of(alloc, coordinate, types)?)?;
-    }
-    let parts = Parts::from(parts);
-    if !Joined::fits(&parts) {
-        return Err("the set is small".into());
-    }
-    Ok(Joined::new(alloc, &parts).ok().ok_or("no memory")?)
-}
 
 // The number of the type of a name.
 fn number_of(joined: &Joined, name: &str) -> Option<u32> {
@@ -70,18 +28,14 @@ fn next_of(joined: &Joined, name: &str) -> Option<u32> {
     joined.chain_next(t).map(|s| s.0)
 }
 
-// Releases, how many known types they have and how many methods these, and of names the number of the type, of its
-// superclass and of the next in its chain.
+// A name, and the number of its type, of the superclass and of the next in the chain.
 type Row = (&'static str, Option<u32>, Option<u32>, Option<u32>);
 
-type Set = (
-    &'static [(&'static str, &'static str)],
-    u32,
-    u32,
-    &'static [Row],
-);
+// How many known types there are and how many methods these have, and what names are of.
+struct Types(u32, u32, &'static [Row]);
 
-const SETS: &[Set] = &[
+// Releases, with their types.
+const SETS: &[(&[(&str, &str)], Types)] = &[
     // p/A and p/B extend each other, and p/C and p/T are known
     (
         &[
@@ -92,15 +46,17 @@ const SETS: &[Set] = &[
                 "class p/C extends p/A pub m()V class p/T static t()V [ virtual p/A.m()V ]",
             ),
         ],
-        2,
-        2,
-        &[
-            ("p/A", None, None, None),
-            ("p/B", None, None, None),
-            ("p/C", Some(0), None, None),
-            ("p/T", Some(1), None, None),
-            ("m", None, None, None),
-        ],
+        Types(
+            2,
+            2,
+            &[
+                ("p/A", None, None, None),
+                ("p/B", None, None, None),
+                ("p/C", Some(0), None, None),
+                ("p/T", Some(1), None, None),
+                ("m", None, None, None),
+            ],
+        ),
     ),
     // the first p/X decides
     (
@@ -111,12 +67,14 @@ const SETS: &[Set] = &[
             ),
             ("g:a:1", "interface p/X pub f()V"),
         ],
-        2,
-        2,
-        &[
-            ("p/X", Some(0), None, None),
-            ("p/Y", Some(1), Some(0), Some(0)),
-        ],
+        Types(
+            2,
+            2,
+            &[
+                ("p/X", Some(0), None, None),
+                ("p/Y", Some(1), Some(0), Some(0)),
+            ],
+        ),
     ),
     // and turned round: an interface is no superclass
     (
@@ -127,9 +85,11 @@ const SETS: &[Set] = &[
                 "class p/X static f()V static g()V class p/Y extends p/X",
             ),
         ],
-        2,
-        1,
-        &[("p/X", Some(0), None, None), ("p/Y", Some(1), None, None)],
+        Types(
+            2,
+            1,
+            &[("p/X", Some(0), None, None), ("p/Y", Some(1), None, None)],
+        ),
     ),
     // Object stands at the end of the chains of classes, and uses no names itself
     (
@@ -140,15 +100,17 @@ const SETS: &[Set] = &[
             ),
             ("a:a:1", "class p/B extends p/A class p/C extends p/absent"),
         ],
-        5,
-        1,
-        &[
-            ("java/lang/Object", Some(0), None, None),
-            ("p/A", Some(1), Some(0), Some(0)),
-            ("p/I", Some(2), None, None),
-            ("p/B", Some(3), Some(1), Some(1)),
-            ("p/C", Some(4), None, Some(0)),
-        ],
+        Types(
+            5,
+            1,
+            &[
+                ("java/lang/Object", Some(0), None, None),
+                ("p/A", Some(1), Some(0), Some(0)),
+                ("p/I", Some(2), None, None),
+                ("p/B", Some(3), Some(1), Some(1)),
+                ("p/C", Some(4), None, Some(0)),
+            ],
+        ),
     ),
     // what stands between two circles isn't circular, nor is what leads to one
     (
@@ -157,14 +119,16 @@ const SETS: &[Set] = &[
             "class p/A extends p/B class p/B extends p/A implements p/K class p/M extends p/A implements p/I \
              interface p/I implements p/J interface p/J implements p/I class p/N extends p/M interface p/K",
         )],
-        3,
-        0,
-        &[
-            ("p/M", Some(0), None, None),
-            ("p/N", Some(1), Some(0), Some(0)),
-            ("p/K", Some(2), None, None),
-            ("p/I", None, None, None),
-        ],
+        Types(
+            3,
+            0,
+            &[
+                ("p/M", Some(0), None, None),
+                ("p/N", Some(1), Some(0), Some(0)),
+                ("p/K", Some(2), None, None),
+                ("p/I", None, None, None),
+            ],
+        ),
     ),
     // the first p/A stands in a circle, and a later one doesn't
     (
@@ -172,9 +136,11 @@ const SETS: &[Set] = &[
             ("g:a:1", "class p/A extends p/B class p/B extends p/A"),
             ("g:b:1", "class p/A static m()V class p/T"),
         ],
-        1,
-        0,
-        &[("p/A", None, None, None), ("p/T", Some(0), None, None)],
+        Types(
+            1,
+            0,
+            &[("p/A", None, None, None), ("p/T", Some(0), None, None)],
+        ),
     ),
     // the first Object is an interface
     (
@@ -185,13 +151,15 @@ const SETS: &[Set] = &[
                 "class java/lang/Object pub n()V class p/A extends java/lang/Object implements java/lang/Object class p/B",
             ),
         ],
-        3,
-        1,
-        &[
-            ("java/lang/Object", Some(0), None, None),
-            ("p/A", Some(1), None, None),
-            ("p/B", Some(2), None, None),
-        ],
+        Types(
+            3,
+            1,
+            &[
+                ("java/lang/Object", Some(0), None, None),
+                ("p/A", Some(1), None, None),
+                ("p/B", Some(2), None, None),
+            ],
+        ),
     ),
     // one release twice
     (
@@ -199,12 +167,14 @@ const SETS: &[Set] = &[
             ("g:a:1", "class p/A static m()V class p/B extends p/A"),
             ("g:a:1", "class p/A static m()V class p/B extends p/A"),
         ],
-        2,
-        1,
-        &[
-            ("p/A", Some(0), None, None),
-            ("p/B", Some(1), Some(0), Some(0)),
-        ],
+        Types(
+            2,
+            1,
+            &[
+                ("p/A", Some(0), None, None),
+                ("p/B", Some(1), Some(0), Some(0)),
+            ],
+        ),
     ),
 ];
 
@@ -215,15 +185,18 @@ fn is_row(joined: &Joined, row: &Row) -> bool {
         && next_of(joined, row.0) == row.3
 }
 
+impl Ask for Types {
+    fn holds(&self, _: Global, joined: &Joined) -> Result<bool, Fail> {
+        let counts = joined.type_count() == self.0 && joined.method_count() == self.1;
+        Ok(counts && self.2.iter().all(|row| is_row(joined, row)))
+    }
+}
+
 #[test]
 fn joins_sets(rt: HostRuntime) -> Result<(), Fail> {
-    for (releases, types, methods, rows) in SETS {
-        let joined = join(rt.alloc(), releases)?;
-        let counts = joined.type_count() == *types && joined.method_count() == *methods;
-        assert!(rt;
-            counts && rows.iter().all(|row| is_row(&joined, row)),
-            "{releases:?}"
-        );
+    for (releases, types) in SETS {
+        let joined = holds(rt.alloc(), releases, types)?;
+        assert!(rt; joined, "{releases:?}");
     }
     Ok(())
 }
@@ -240,24 +213,31 @@ fn is_owned(joined: &Joined, number: u32, owner: u32) -> bool {
     number < joined.method_count() && joined.owner(MethodId(number)) == TypeId(owner)
 }
 
+// What types are told to be.
+struct TypesTold;
+
+impl Ask for TypesTold {
+    fn holds(&self, _: Global, joined: &Joined) -> Result<bool, Fail> {
+        let names = is_named(joined, 0, "p/Y", Some(b"p/X"))
+            && is_named(joined, 2, "p/X", Some(b"java/lang/Object"));
+        let flags = flags_of(joined, "p/Y") == Some(0x0021)
+            && flags_of(joined, "p/Z") == Some(0x0601);
+        let owners = is_owned(joined, 0, 0) && is_owned(joined, 1, 1) && is_owned(joined, 3, 2);
+        Ok(names && flags && owners && joined.parts().as_slice().len() == 2)
+    }
+}
+
 #[test]
 fn tells_types(rt: HostRuntime) -> Result<(), Fail> {
-    let joined = join(
-        rt.alloc(),
-        &[
-            (
-                "g:b:1",
-                "class p/Y extends p/X pub f()V interface p/Z abs g()V",
-            ),
-            ("g:a:1", "class p/Y class p/X pub f()V pub g()V"),
-        ],
-    )?;
-    let names = is_named(&joined, 0, "p/Y", Some(b"p/X"))
-        && is_named(&joined, 2, "p/X", Some(b"java/lang/Object"));
-    let flags = flags_of(&joined, "p/Y") == Some(0x0021)
-        && flags_of(&joined, "p/Z") == Some(0x0601);
-    let owners = is_owned(&joined, 0, 0) && is_owned(&joined, 1, 1) && is_owned(&joined, 3, 2);
-    assert!(rt; names && flags && owners && joined.parts().as_slice().len() == 2);
+    let releases = [
+        (
+            "g:b:1",
+            "class p/Y extends p/X pub f()V interface p/Z abs g()V",
+        ),
+        ("g:a:1", "class p/Y class p/X pub f()V pub g()V"),
+    ];
+    let told = holds(rt.alloc(), &releases, &TypesTold)?;
+    assert!(rt; told);
     Ok(())
 }
 
@@ -322,53 +302,67 @@ const DECLARED: &[(&str, &str, &str, Option<u32>)] = &[
     ("p/X", "absent", "()V", None),
 ];
 
+// What methods are told to be.
+struct MethodsTold;
+
+impl Ask for MethodsTold {
+    fn holds(&self, _: Global, joined: &Joined) -> Result<bool, Fail> {
+        let origins = ORIGINS.iter().all(|row| is_from(joined, row.0, &row.1));
+        let declared = DECLARED
+            .iter()
+            .all(|row| declared_in(joined, row.0, row.1, row.2) == row.3);
+        let names = is_method(joined, 1, "g", "()V") && is_method(joined, 3, "g", "(I)V");
+        Ok(origins && declared && names)
+    }
+}
+
 #[test]
 fn tells_methods(rt: HostRuntime) -> Result<(), Fail> {
-    let joined = join(
-        rt.alloc(),
-        &[
-            (
-                "g:b:1",
-                "class p/Y extends p/X pub f()V interface p/Z abs g()V",
-            ),
-            ("g:a:1", "class p/Y pub h()V class p/X pub f()V pub g(I)V"),
-        ],
-    )?;
-    let origins = ORIGINS.iter().all(|row| is_from(&joined, row.0, &row.1));
-    let declared = DECLARED
-        .iter()
-        .all(|row| declared_in(&joined, row.0, row.1, row.2) == row.3);
-    let names = is_method(&joined, 1, "g", "()V") && is_method(&joined, 3, "g", "(I)V");
-    assert!(rt; origins && declared && names);
+    let releases = [
+        (
+            "g:b:1",
+            "class p/Y extends p/X pub f()V interface p/Z abs g()V",
+        ),
+        ("g:a:1", "class p/Y pub h()V class p/X pub f()V pub g(I)V"),
+    ];
+    let told = holds(rt.alloc(), &releases, &MethodsTold)?;
+    assert!(rt; told);
     Ok(())
 }
 
-// Releases that both have p/X, with its flags and how many methods it has.
-const DOUBLED: &[(&[(&str, &str)], u16, u32)] = &[
+// The flags of p/X, and how many methods there are, all of p/X.
+struct First(u16, u32);
+
+impl Ask for First {
+    fn holds(&self, _: Global, joined: &Joined) -> Result<bool, Fail> {
+        let first = flags_of(joined, "p/X") == Some(self.0) && joined.method_count() == self.1;
+        Ok(first && is_owned(joined, 0, 0))
+    }
+}
+
+// Releases that both have p/X, and what the first has.
+const DOUBLED: &[(&[(&str, &str)], First)] = &[
     (
         &[
             ("g:b:1", "class p/X static f()V static g()V"),
             ("g:a:1", "interface p/X pub f()V"),
         ],
-        0x0021,
-        2,
+        First(0x0021, 2),
     ),
     (
         &[
             ("g:a:1", "interface p/X pub f()V"),
             ("g:b:1", "class p/X static f()V static g()V"),
         ],
-        0x0601,
-        1,
+        First(0x0601, 1),
     ),
 ];
 
 #[test]
 fn tells_flags_of_the_first(rt: HostRuntime) -> Result<(), Fail> {
-    for (releases, flags, methods) in DOUBLED {
-        let joined = join(rt.alloc(), releases)?;
-        let first = flags_of(&joined, "p/X") == Some(*flags) && joined.method_count() == *methods;
-        assert!(rt; first && is_owned(&joined, 0, 0), "{releases:?}");
+    for (releases, first) in DOUBLED {
+        let told = holds(rt.alloc(), releases, first)?;
+        assert!(rt; told, "{releases:?}");
     }
     Ok(())
 }

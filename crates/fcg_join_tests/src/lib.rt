@@ -14,6 +14,8 @@ mod outcomes;
 #[cfg(test)]
 mod selections;
 #[cfg(test)]
+mod sets;
+#[cfg(test)]
 mod signatures;
 #[cfg(test)]
 mod specials;

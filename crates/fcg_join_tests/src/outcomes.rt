@@ -6,7 +6,7 @@ ghost use Rattle.fcg_join.specs.SetNames.{set_names};
 ghost use Rattle.fcg_join.specs.Numbers.{HasRef};
 ghost use Rattle.fcg_join.specs.Outcomes.{GivesOutcome, IfMethod};
 
-use crate::joined::join;
+use crate::sets::{Ask, holds};
 use fcg_join::{Cause, Joined, MethodId, NumberedRef, Outcome};
 use fcg_resolve::{resolve, resolve_numbered};
 use fcg_views::{Name, Ref, Steps};
@@ -143,11 +143,14 @@ const OBJECT: &[(&str, &str)] = &[
     ),
 ];
 
-// Sets, and in each references with what they stand for.
-const OUTCOMES: &[(&[(&str, &str)], &[(Target, Outcome)])] = &[
+// References with what they stand for.
+struct Outcomes(&'static [(Target, Outcome)]);
+
+// Sets, with references of each.
+const OUTCOMES: &[(&[(&str, &str)], Outcomes)] = &[
     (
         LOGGING,
-        &[
+        Outcomes(&[
             (
                 ("log/Factory", true, "get", "()Llog/Logger;"),
                 Outcome::Failed(Cause::KindMismatch),
@@ -165,11 +168,11 @@ const OUTCOMES: &[(&[(&str, &str)], &[(Target, Outcome)])] = &[
                 Outcome::Phantom,
             ),
             (("impl/Out", false, "read", "()V"), Outcome::Phantom),
-        ],
+        ]),
     ),
     (
         OBJECT,
-        &[
+        Outcomes(&[
             (
                 ("[I", false, "hashCode", "()I"),
                 Outcome::Method(MethodId(0)),
@@ -202,7 +205,7 @@ const OUTCOMES: &[(&[(&str, &str)], &[(Target, Outcome)])] = &[
                 Outcome::Method(MethodId(5)),
             ),
             (("x/Absent", false, "none", "()V"), Outcome::Phantom),
-        ],
+        ]),
     ),
 ];
 
@@ -217,24 +220,20 @@ fn stands_for(
     Ok(is_outcome(joined, &reference, target, outcome))
 }
 
-// Whether in a set all references stand for their outcomes.
-fn all_stand(
-    alloc: Global,
-    releases: &[(&str, &str)],
-    rows: &[(Target, Outcome)],
-) -> Result<bool, Fail> {
-    let joined = join(alloc, releases)?;
-    let mut all = true;
-    for row in rows {
-        all = stands_for(alloc, &joined, &row.0, row.1)? && all;
+impl Ask for Outcomes {
+    fn holds(&self, alloc: Global, joined: &Joined) -> Result<bool, Fail> {
+        let mut all = true;
+        for row in self.0 {
+            all = stands_for(alloc, joined, &row.0, row.1)? && all;
+        }
+        Ok(all)
     }
-    Ok(all)
 }
 
 #[test]
 fn resolves(rt: HostRuntime) -> Result<(), Fail> {
-    for (releases, rows) in OUTCOMES {
-        let all = all_stand(rt.alloc(), releases, rows)?;
+    for (releases, outcomes) in OUTCOMES {
+        let all = holds(rt.alloc(), releases, outcomes)?;
         assert!(rt; all, "{releases:?}");
     }
     Ok(())
@@ -255,24 +254,25 @@ fn both_fail(joined: &Joined, first: &Ref, second: &Ref) -> bool {
     fail_both::<Brand>(joined, first, second, Blank::new(1))
 }
 
-// Whether two references of a set fail, each for its kind.
-fn count_two(
-    alloc: Global,
-    releases: &[(&str, &str)],
-    first: &Target,
-    second: &Target,
-) -> Result<bool, Fail> {
-    let joined = join(alloc, releases)?;
-    let first = new_ref(alloc, first)?;
-    let second = new_ref(alloc, second)?;
-    Ok(both_fail(&joined, &first, &second))
+// Two references that fail, each for its kind.
+struct Mismatches(Target, Target);
+
+impl Ask for Mismatches {
+    fn holds(&self, alloc: Global, joined: &Joined) -> Result<bool, Fail> {
+        let first = new_ref(alloc, &self.0)?;
+        let second = new_ref(alloc, &self.1)?;
+        Ok(both_fail(joined, &first, &second))
+    }
 }
+
+const MISMATCHES: Mismatches = Mismatches(
+    ("log/Factory", true, "get", "()Llog/Logger;"),
+    ("log/Logger", false, "info", "(Ljava/lang/String;)V"),
+);
 
 #[test]
 fn counts_one_step_each(rt: HostRuntime) -> Result<(), Fail> {
-    let first = ("log/Factory", true, "get", "()Llog/Logger;");
-    let second = ("log/Logger", false, "info", "(Ljava/lang/String;)V");
-    let both = count_two(rt.alloc(), LOGGING, &first, &second)?;
-    assert!(rt; both);
+    let fail = holds(rt.alloc(), LOGGING, &MISMATCHES)?;
+    assert!(rt; fail);
     Ok(())
 }

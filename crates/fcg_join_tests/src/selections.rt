@@ -2,8 +2,8 @@ ghost use Rattle.std.specs.Prelude.{◌<◌, length};
 ghost use Rattle.fcg_join.specs.Parts.{types_of, nodes_of};
 ghost use Rattle.fcg_join.specs.Outcomes.{IfMethod};
 
-use crate::joined::join;
 use crate::outcomes::{Target, new_ref, resolve_named};
+use crate::sets::{Ask, holds};
 use fcg_join::{Joined, MethodId, Outcome, TypeId};
 use fcg_select::{can_override, is_instance_of, select, select_as};
 use fcg_views::Ref;
@@ -61,72 +61,76 @@ const A_METHOD: Target = ("p/A", false, "m", "()V");
 
 const K_METHOD: Target = ("p/K", false, "m", "()V");
 
-// Types, a reference, and what it takes for classes.
-type Case = (
-    &'static str,
-    Target,
-    &'static [(&'static str, Option<MethodId>)],
-);
+// A reference, and what it takes for classes.
+struct Taken(Target, &'static [(&'static str, Option<MethodId>)]);
 
-const CASES: &[Case] = &[
+// Types, with what a reference of theirs takes.
+const CASES: &[(&str, Taken)] = &[
     // q/C overrides what p/B hands on, and q/D nothing
     (
         PACKAGES,
-        A_METHOD,
-        &[
-            ("p/A", Some(MethodId(0))),
-            ("p/B", Some(MethodId(1))),
-            ("q/C", Some(MethodId(2))),
-            ("q/D", Some(MethodId(0))),
-            ("p/T", None),
-        ],
+        Taken(
+            A_METHOD,
+            &[
+                ("p/A", Some(MethodId(0))),
+                ("p/B", Some(MethodId(1))),
+                ("q/C", Some(MethodId(2))),
+                ("q/D", Some(MethodId(0))),
+                ("p/T", None),
+            ],
+        ),
     ),
-    (TWO_DEFAULTS, K_METHOD, &[("p/K", None)]),
-    (ONE_DEFAULT, K_METHOD, &[("p/K", Some(MethodId(0)))]),
-    (DEFAULT_BELOW, K_METHOD, &[("p/K", Some(MethodId(2)))]),
+    (TWO_DEFAULTS, Taken(K_METHOD, &[("p/K", None)])),
+    (ONE_DEFAULT, Taken(K_METHOD, &[("p/K", Some(MethodId(0)))])),
+    (
+        DEFAULT_BELOW,
+        Taken(K_METHOD, &[("p/K", Some(MethodId(2)))]),
+    ),
     // what is private or static is passed over
     (
         PRIVATE_AND_STATIC,
-        A_METHOD,
-        &[
-            ("p/A", Some(MethodId(0))),
-            ("p/B", Some(MethodId(0))),
-            ("p/C", Some(MethodId(0))),
-        ],
+        Taken(
+            A_METHOD,
+            &[
+                ("p/A", Some(MethodId(0))),
+                ("p/B", Some(MethodId(0))),
+                ("p/C", Some(MethodId(0))),
+            ],
+        ),
     ),
     // a private resolved method is taken itself
     (
         PRIVATE_AND_STATIC,
-        ("p/B", false, "m", "()V"),
-        &[("p/A", Some(MethodId(1))), ("p/B", Some(MethodId(1)))],
+        Taken(
+            ("p/B", false, "m", "()V"),
+            &[("p/A", Some(MethodId(1))), ("p/B", Some(MethodId(1)))],
+        ),
     ),
     // a phantom is overridden by what is open
     (
         PRIVATE_AND_STATIC,
-        ("x/Absent", false, "m", "()V"),
-        &[("p/B", Some(MethodId(0))), ("p/T", None)],
+        Taken(
+            ("x/Absent", false, "m", "()V"),
+            &[("p/B", Some(MethodId(0))), ("p/T", None)],
+        ),
     ),
 ];
 
-// Whether for each of some classes the reference takes the class's method.
-fn all_take(
-    alloc: Global,
-    types: &str,
-    target: &Target,
-    rows: &[(&str, Option<MethodId>)],
-) -> Result<bool, Fail> {
-    let joined = join(alloc, &[("g:a:1", types)])?;
-    let reference = new_ref(alloc, target)?;
-    Ok(
-        rows.iter()
-            .all(|row| takes(&joined, &reference, row.0, row.1)),
-    )
+impl Ask for Taken {
+    fn holds(&self, alloc: Global, joined: &Joined) -> Result<bool, Fail> {
+        let reference = new_ref(alloc, &self.0)?;
+        Ok(
+            self.1
+                .iter()
+                .all(|row| takes(joined, &reference, row.0, row.1)),
+        )
+    }
 }
 
 #[test]
 fn selects(rt: HostRuntime) -> Result<(), Fail> {
-    for (types, target, rows) in CASES {
-        let all = all_take(rt.alloc(), types, target, rows)?;
+    for (types, taken) in CASES {
+        let all = holds(rt.alloc(), &[("g:a:1", *types)], taken)?;
         assert!(rt; all, "{types}");
     }
     Ok(())
@@ -139,37 +143,36 @@ fn overrides(joined: &Joined, over: u32, under: u32) -> bool {
         && can_override(joined, MethodId(over), MethodId(under))
 }
 
-// Of these types' methods each pair of which the first can override the second.
-const OVERRIDES: &[(&str, &[(u32, u32)], &[(u32, u32)])] = &[
+// Pairs of methods of which the first can override the second, and pairs of which it can't.
+struct Pairs(&'static [(u32, u32)], &'static [(u32, u32)]);
+
+// Types, with pairs of their methods.
+const OVERRIDES: &[(&str, Pairs)] = &[
     (
         PACKAGES,
-        &[(0, 0), (1, 0), (2, 0), (0, 1), (2, 1), (3, 1)],
-        &[(3, 0), (4, 0), (0, 4)],
+        Pairs(
+            &[(0, 0), (1, 0), (2, 0), (0, 1), (2, 1), (3, 1)],
+            &[(3, 0), (4, 0), (0, 4)],
+        ),
     ),
     (
         PRIVATE_AND_STATIC,
-        &[(0, 0)],
-        &[(1, 0), (2, 0), (0, 1), (1, 1), (0, 2)],
+        Pairs(&[(0, 0)], &[(1, 0), (2, 0), (0, 1), (1, 1), (0, 2)]),
     ),
 ];
 
-// Whether the first of each of some pairs can override the second, and of none of the others.
-fn all_override(
-    alloc: Global,
-    types: &str,
-    pairs: &[(u32, u32)],
-    others: &[(u32, u32)],
-) -> Result<bool, Fail> {
-    let joined = join(alloc, &[("g:a:1", types)])?;
-    let all = pairs.iter().all(|pair| overrides(&joined, pair.0, pair.1));
-    let any = others.iter().any(|pair| overrides(&joined, pair.0, pair.1));
-    Ok(all && !any)
+impl Ask for Pairs {
+    fn holds(&self, _: Global, joined: &Joined) -> Result<bool, Fail> {
+        let all = self.0.iter().all(|pair| overrides(joined, pair.0, pair.1));
+        let any = self.1.iter().any(|pair| overrides(joined, pair.0, pair.1));
+        Ok(all && !any)
+    }
 }
 
 #[test]
 fn tells_overriding(rt: HostRuntime) -> Result<(), Fail> {
-    for (types, pairs, others) in OVERRIDES {
-        let told = all_override(rt.alloc(), types, pairs, others)?;
+    for (types, pairs) in OVERRIDES {
+        let told = holds(rt.alloc(), &[("g:a:1", *types)], pairs)?;
         assert!(rt; told, "{types}");
     }
     Ok(())
@@ -195,21 +198,24 @@ fn two_packages(alloc: Global, count: u32) -> Result<String, Fail> {
     Ok(text)
 }
 
-const C_METHOD: Target = ("p/C0", false, "m", "()V");
+const DEEP: Taken = Taken(
+    ("p/C0", false, "m", "()V"),
+    &[
+        ("p/C0", Some(MethodId(0))),
+        ("q/C1", Some(MethodId(0))),
+        ("p/C998", Some(MethodId(998))),
+        ("q/C999", Some(MethodId(998))),
+    ],
+);
 
-const DEEP: &[(&str, Option<MethodId>)] = &[
-    ("p/C0", Some(MethodId(0))),
-    ("q/C1", Some(MethodId(0))),
-    ("p/C998", Some(MethodId(998))),
-    ("q/C999", Some(MethodId(998))),
-];
+const DEEP_OVERRIDES: Pairs = Pairs(&[(2, 0), (998, 0), (999, 1)], &[(1, 0), (999, 0)]);
 
 #[test]
 fn selects_in_deep_hierarchies(rt: HostRuntime) -> Result<(), Fail> {
     let text = two_packages(rt.alloc(), 1_000)?;
-    let selected = all_take(rt.alloc(), text.as_str(), &C_METHOD, DEEP)?;
-    let pairs = &[(2, 0), (998, 0), (999, 1)];
-    let overridden = all_override(rt.alloc(), text.as_str(), pairs, &[(1, 0), (999, 0)])?;
+    let releases = [("g:a:1", text.as_str())];
+    let selected = holds(rt.alloc(), &releases, &DEEP)?;
+    let overridden = holds(rt.alloc(), &releases, &DEEP_OVERRIDES)?;
     assert!(rt; selected && overridden);
     Ok(())
 }

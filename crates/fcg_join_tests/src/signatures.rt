@@ -1,5 +1,6 @@
-use crate::joined::join;
+use crate::sets::{Ask, holds};
 use fcg_join::{Joined, MethodId};
+use std::alloc::Global;
 use std::test::Fail;
 
 // The releases: p/A has two methods of one name, and java/lang/Object, p/A and p/I have one of one signature.
@@ -118,31 +119,49 @@ fn is_type(joined: &Joined, name: &str, superclass: Option<u32>, interface: bool
     }
 }
 
+// What is told by numbers, of names and types, and of signatures.
+enum Numbered {
+    Names,
+    Signatures,
+}
+
+fn are_names_numbered(joined: &Joined) -> bool {
+    let names = NAMES.iter().all(|row| is_name(joined, row.0, row.1, row.2));
+    let types = TYPES.iter().all(|row| is_type(joined, row.0, row.1, row.2));
+    names && types && joined.object().map(|t| t.0) == Some(0)
+}
+
+fn are_signatures_numbered(joined: &Joined) -> bool {
+    let signatures = SIGNATURES.iter().all(|row| {
+        is_signature(joined, row.0, row.1, row.2, row.3) && by_names(joined, row.0, row.1) == row.2
+    });
+    let methods = has_signature(joined, 1, 1) && has_signature(joined, 3, 2);
+    let declared = DECLARED.iter().all(|row| {
+        declared_in(joined, row.0, row.1, row.2) == row.3
+            && in_object(joined, row.1, row.2) == row.4
+    });
+    signatures && methods && declared && joined.signature_count() == 3
+}
+
+impl Ask for Numbered {
+    fn holds(&self, _: Global, joined: &Joined) -> Result<bool, Fail> {
+        match self {
+            Numbered::Names => Ok(are_names_numbered(joined)),
+            Numbered::Signatures => Ok(are_signatures_numbered(joined)),
+        }
+    }
+}
+
 #[test]
-fn numbers_names(rt: HostRuntime) -> Result<(), Fail> {
-    let joined = join(rt.alloc(), RELEASES)?;
-    let names = NAMES
-        .iter()
-        .all(|row| is_name(&joined, row.0, row.1, row.2));
-    let types = TYPES
-        .iter()
-        .all(|row| is_type(&joined, row.0, row.1, row.2));
-    assert!(rt; names && types && joined.object().map(|t| t.0) == Some(0));
+fn numbers_names_of_sets(rt: HostRuntime) -> Result<(), Fail> {
+    let numbered = holds(rt.alloc(), RELEASES, &Numbered::Names)?;
+    assert!(rt; numbered);
     Ok(())
 }
 
 #[test]
 fn numbers_signatures(rt: HostRuntime) -> Result<(), Fail> {
-    let joined = join(rt.alloc(), RELEASES)?;
-    let signatures = SIGNATURES.iter().all(|row| {
-        is_signature(&joined, row.0, row.1, row.2, row.3)
-            && by_names(&joined, row.0, row.1) == row.2
-    });
-    let methods = has_signature(&joined, 1, 1) && has_signature(&joined, 3, 2);
-    let declared = DECLARED.iter().all(|row| {
-        declared_in(&joined, row.0, row.1, row.2) == row.3
-            && in_object(&joined, row.1, row.2) == row.4
-    });
-    assert!(rt; signatures && methods && declared && joined.signature_count() == 3);
+    let numbered = holds(rt.alloc(), RELEASES, &Numbered::Signatures)?;
+    assert!(rt; numbered);
     Ok(())
 }

@@ -1,5 +1,5 @@
-use crate::joined::join;
 use crate::outcomes::{Target, new_ref, number_ref, resolve_by_numbers, resolve_named};
+use crate::sets::{Ask, holds};
 use fcg_join::{Joined, MethodId};
 use fcg_select::{special, special_numbered};
 use fcg_views::Ref;
@@ -43,24 +43,18 @@ const SEARCHES: &[(&str, &str)] = &[(
      class p/Z extends p/Y",
 )];
 
-// Releases, a class and a reference of its, and the method that its special call takes.
-type Case = (
-    &'static [(&'static str, &'static str)],
-    &'static str,
-    Target,
-    Option<MethodId>,
-);
+// A class and a reference of its, and the method that its special call takes.
+struct Calls(&'static str, Target, Option<MethodId>);
 
-const CASES: &[Case] = &[
+// Releases, with a special call of theirs.
+const CASES: &[(&[(&str, &str)], Calls)] = &[
     // the superclass of the class as it is linked decides
     (
         &[
             ("l:l:1", "class p/G pub m()V class p/P extends p/G"),
             CALLER,
         ],
-        "p/C",
-        ("p/P", false, "m", "()V"),
-        Some(MethodId(0)),
+        Calls("p/C", ("p/P", false, "m", "()V"), Some(MethodId(0))),
     ),
     (
         &[
@@ -70,57 +64,50 @@ const CASES: &[Case] = &[
             ),
             CALLER,
         ],
-        "p/C",
-        ("p/P", false, "m", "()V"),
-        Some(MethodId(1)),
+        Calls("p/C", ("p/P", false, "m", "()V"), Some(MethodId(1))),
     ),
     // an `<init>` isn't inherited
     (
         INITS,
-        "p/C",
-        ("p/A", false, "<init>", "()V"),
-        Some(MethodId(0)),
+        Calls("p/C", ("p/A", false, "<init>", "()V"), Some(MethodId(0))),
     ),
-    (INITS, "p/C", ("p/B", false, "<init>", "()V"), None),
+    (INITS, Calls("p/C", ("p/B", false, "<init>", "()V"), None)),
     // a superclass further up: the search begins at the superclass, and takes a private method
     (
         SEARCHES,
-        "p/C",
-        ("p/A", false, "m", "()V"),
-        Some(MethodId(1)),
+        Calls("p/C", ("p/A", false, "m", "()V"), Some(MethodId(1))),
     ),
     // no superclass: it begins at the named class
     (
         SEARCHES,
-        "p/T",
-        ("p/A", false, "m", "()V"),
-        Some(MethodId(0)),
+        Calls("p/T", ("p/A", false, "m", "()V"), Some(MethodId(0))),
     ),
     // a static method is resolved
-    (SEARCHES, "p/T", ("p/N", false, "m", "()V"), None),
+    (SEARCHES, Calls("p/T", ("p/N", false, "m", "()V"), None)),
     // an absent superclass counts by its name: of p/Z the search begins at p/Y, and of p/Y nowhere
     (
         SEARCHES,
-        "p/Z",
-        ("x/Absent", false, "m", "()V"),
-        Some(MethodId(5)),
+        Calls("p/Z", ("x/Absent", false, "m", "()V"), Some(MethodId(5))),
     ),
-    (SEARCHES, "p/Y", ("x/Absent", false, "m", "()V"), None),
+    (
+        SEARCHES,
+        Calls("p/Y", ("x/Absent", false, "m", "()V"), None),
+    ),
 ];
 
-// Whether a special call takes its method, by the names and by their numbers.
-fn takes(alloc: Global, case: &Case) -> Result<bool, Fail> {
-    let joined = join(alloc, case.0)?;
-    let reference = new_ref(alloc, &case.2)?;
-    let named = special_named(&joined, case.1, &reference);
-    Ok(named == case.3 && special_by_numbers(&joined, case.1, &case.2) == case.3)
+impl Ask for Calls {
+    fn holds(&self, alloc: Global, joined: &Joined) -> Result<bool, Fail> {
+        let reference = new_ref(alloc, &self.1)?;
+        let named = special_named(joined, self.0, &reference);
+        Ok(named == self.2 && special_by_numbers(joined, self.0, &self.1) == self.2)
+    }
 }
 
 #[test]
 fn calls_superclasses(rt: HostRuntime) -> Result<(), Fail> {
-    for case in CASES {
-        let taken = takes(rt.alloc(), case)?;
-        assert!(rt; taken, "{}", case.1);
+    for (releases, call) in CASES {
+        let taken = holds(rt.alloc(), releases, call)?;
+        assert!(rt; taken, "{}", call.0);
     }
     Ok(())
 }

@@ -1,93 +1,72 @@
-use crate::joined::join;
+use crate::sets::{Ask, holds};
 use fcg_join::{Joined, MethodId};
 use std::alloc::Global;
 use std::string::String;
 use std::test::Fail;
 
-// The types of a release, one of these, and the owners of the one default and of the first superinterface method of `m()V`.
-type Case = (
-    &'static str,
-    &'static str,
-    Option<&'static str>,
-    Option<&'static str>,
-);
+// A type, and the owners of the one default and of the first superinterface method of `m()V`.
+struct Above(&'static str, Option<&'static str>, Option<&'static str>);
 
-const CASES: &[Case] = &[
+// The types of a release, with what is above one of these.
+const CASES: &[(&str, Above)] = &[
     // two defaults of unrelated interfaces
     (
         "class p/A implements p/I implements p/J interface p/J pub m()V interface p/I pub m()V",
-        "p/A",
-        None,
-        Some("p/J"),
+        Above("p/A", None, Some("p/J")),
     ),
     // a default below another
     (
         "interface p/I pub m()V interface p/J implements p/I pub m()V class p/A implements p/I implements p/J",
-        "p/A",
-        Some("p/J"),
-        Some("p/I"),
+        Above("p/A", Some("p/J"), Some("p/I")),
     ),
     // the same, with the names the other way round
     (
         "interface p/J pub m()V interface p/I implements p/J pub m()V class p/A implements p/I implements p/J",
-        "p/A",
-        Some("p/I"),
-        Some("p/J"),
+        Above("p/A", Some("p/I"), Some("p/J")),
     ),
     // an abstract one beside a default
     (
         "interface p/I abs m()V interface p/J pub m()V class p/A implements p/I implements p/J",
-        "p/A",
-        Some("p/J"),
-        Some("p/I"),
+        Above("p/A", Some("p/J"), Some("p/I")),
     ),
     // an abstract one below a default
     (
         "interface p/I pub m()V interface p/J implements p/I abs m()V class p/A implements p/J",
-        "p/A",
-        None,
-        Some("p/I"),
+        Above("p/A", None, Some("p/I")),
     ),
     // a default that an abstract one is below, and another
     (
         "interface p/I pub m()V interface p/J implements p/I abs m()V interface p/K pub m()V \
          class p/A implements p/J implements p/K",
-        "p/A",
-        Some("p/K"),
-        Some("p/I"),
+        Above("p/A", Some("p/K"), Some("p/I")),
     ),
     // static and private ones don't count, not even below a default
     (
         "interface p/I static m()V interface p/J implements p/K private m()V interface p/K pub m()V \
          class p/A implements p/I implements p/J",
-        "p/A",
-        Some("p/K"),
-        Some("p/K"),
+        Above("p/A", Some("p/K"), Some("p/K")),
     ),
     // nor do those of classes, and of the type itself
     (
         "class p/B pub m()V interface p/I pub m()V interface p/J implements p/K pub m()V class p/A extends p/B implements p/J \
          interface p/K",
-        "p/J",
-        None,
-        None,
+        Above("p/J", None, None),
     ),
     // the interfaces of a superclass count
     (
         "class p/B pub m()V implements p/I interface p/I pub m()V class p/A extends p/B",
-        "p/A",
-        Some("p/I"),
-        Some("p/I"),
+        Above("p/A", Some("p/I"), Some("p/I")),
     ),
     // another descriptor, a class named as an interface, and an absent interface
     (
         "interface p/I pub m(I)V class p/K pub m()V class p/A implements p/I implements p/K implements x/I",
-        "p/A",
-        None,
-        None,
+        Above("p/A", None, None),
     ),
     // no method has the signature
-    ("interface p/I class p/A implements p/I", "p/A", None, None),
+    (
+        "interface p/I class p/A implements p/I",
+        Above("p/A", None, None),
+    ),
 ];
 
 // Whether the owner of what is found has this name.
@@ -112,11 +91,17 @@ fn has_above(joined: &Joined, name: &str, default: Option<&str>, first: Option<&
     }
 }
 
+impl Ask for Above {
+    fn holds(&self, _: Global, joined: &Joined) -> Result<bool, Fail> {
+        Ok(has_above(joined, self.0, self.1, self.2))
+    }
+}
+
 #[test]
 fn finds_superinterface_methods(rt: HostRuntime) -> Result<(), Fail> {
-    for (types, name, default, first) in CASES {
-        let joined = join(rt.alloc(), &[("g:a:1", *types)])?;
-        assert!(rt; has_above(&joined, name, *default, *first), "{types}");
+    for (types, above) in CASES {
+        let found = holds(rt.alloc(), &[("g:a:1", *types)], above)?;
+        assert!(rt; found, "{types}");
     }
     Ok(())
 }
@@ -140,12 +125,16 @@ fn levels(alloc: Global) -> Result<String, Fail> {
     Ok(text)
 }
 
+const LAST: Above = Above("p/C", Some("p/A20"), Some("p/A0"));
+
+const MIDDLE: Above = Above("p/B20", Some("p/A0"), Some("p/A0"));
+
 #[test]
 fn finds_methods_over_levels(rt: HostRuntime) -> Result<(), Fail> {
     let types = levels(rt.alloc())?;
-    let joined = join(rt.alloc(), &[("g:a:1", types.as_str())])?;
-    let last = has_above(&joined, "p/C", Some("p/A20"), Some("p/A0"));
-    let middle = has_above(&joined, "p/B20", Some("p/A0"), Some("p/A0"));
+    let releases = [("g:a:1", types.as_str())];
+    let last = holds(rt.alloc(), &releases, &LAST)?;
+    let middle = holds(rt.alloc(), &releases, &MIDDLE)?;
     assert!(rt; last && middle);
     Ok(())
 }

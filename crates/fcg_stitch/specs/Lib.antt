@@ -1,1 +1,5 @@
 pub mod Targets
+pub mod Status
+pub mod Limits
+pub mod Names
+pub mod Internal

@@ -1,0 +1,12 @@
+pub mod RowCounts
+pub mod RowSizes
+pub mod RowsMore
+pub mod MarkLaws
+pub mod KeptLaws
+pub mod CallerLaws
+pub mod NumberCounts
+pub mod TargetCounts
+pub mod RowSearch
+pub mod NextNumbers
+pub mod EdgePlaces
+pub mod KeptRows

@@ -1,0 +1,4 @@
+-- Words of the contracts of private functions: no public contract needs them.
+pub mod Tables
+pub mod Counts
+pub mod Making

@@ -1,5 +1,0 @@
-use Rattle.fcg_stitch.proofs.RowCounts.{counts_add}
-use Rattle.fcg_stitch.proofs.row_laws.disjoint_rows_add_up.Goals as goal
-
-pub returns : goal.returns
-returns c = counts_add

@@ -1,5 +1,0 @@
-use Rattle.fcg_stitch.proofs.RowCounts.{sorted_is_filter}
-use Rattle.fcg_stitch.proofs.row_laws.sorted_rows_are_filters.Goals as goal
-
-pub returns : goal.returns
-returns c = sorted_is_filter

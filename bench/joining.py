@@ -1,10 +1,11 @@
 #!/usr/bin/env python3
-"""Times the joining of stored graphs: the modules of a JDK, and these with the jars of the machine.
+"""Times the joining and the stitching of stored graphs: the modules of a JDK, and these with the jars of the machine.
 
-The program of bench/joining_program.txt reads a bundle for each module and each jar, makes their graphs and joins them. It is
-built, with its proof, in a copy of the repository (--copy keeps the copy, and takes it where it is there). Printed are the
-known types and methods, which must be as many as this script counts by itself, the least milliseconds of some runs that
-joining took, beside those of list over the same bundles, and the peak of memory that it took above the graphs.
+The program of bench/joining_program.txt reads a bundle for each module and each jar, makes their graphs and joins or stitches
+them. It is built, with its proof, in a copy of the repository (--copy keeps the copy, and takes it where it is there). Printed
+are the known types and methods, which must be as many as this script counts by itself, and the edges; the least milliseconds of
+some runs that joining and stitching took, beside those of list over the same bundles; and the peaks of memory that they took
+above the graphs.
 """
 
 import argparse
@@ -21,7 +22,8 @@ import measure
 import plain
 import real_input
 
-CRATE = "fcg_joining: fcg_grammar fcg_views fcg_classfile fcg_bytes fcg_class fcg_partial fcg_join\n"
+CRATE = ("fcg_joining: fcg_grammar fcg_views fcg_classfile fcg_bytes fcg_class fcg_partial fcg_order fcg_analysis fcg_join "
+         "fcg_resolve fcg_select fcg_edges fcg_stitch\n")
 
 # the most bytes of the class files of a bundle
 MOST = 60000000
@@ -108,22 +110,28 @@ def list_seconds(folder, bundles, runs):
     return total - started * len(bundles)
 
 
+def least(program, path, word, runs):
+    """What the quickest of some runs prints, and the least peak of memory."""
+    told = [run(program, path, [word]) for _ in range(runs)]
+    return min((numbers for numbers, _ in told), key=lambda numbers: numbers[-1]), min(peak for _, peak in told)
+
+
 def measure_set(label, program, bundles, options):
-    """Joins the bundles some times, and prints what it took."""
+    """Joins and stitches the bundles some times, and prints what it took."""
     with tempfile.TemporaryDirectory() as folder:
         path = write_input(folder, bundles)
-        runs = [run(program, path) for _ in range(options.runs)]
-        _, beside = run(program, path, ["graphs"])
-        numbers = runs[0][0]
-        joined = min(told[3] for told, _ in runs) / 1000.0
-        peak = min(weight for _, weight in runs) - beside
+        _, beside = least(program, path, "graphs", 1)
+        joined, join_peak = least(program, path, "join", options.runs)
+        stitched, stitch_peak = least(program, path, "stitch", options.runs)
         listed = list_seconds(folder, bundles, options.runs) * 1000.0
-    print("%s: %d bundles, %d bytes, %d types, %d methods" % (label, len(bundles), sum(map(len, bundles)), numbers[0], numbers[1]))
-    print("  joining %.1f ms, list %.1f ms, a share of %.3f; above the peak with the graphs alone %.1f MB" % (
-        joined, listed, joined / listed, peak / 1e6))
+    print("%s: %d bundles, %d bytes, %d types, %d methods, %d edges" % (
+        label, len(bundles), sum(map(len, bundles)), joined[0], joined[1], stitched[0]))
+    for name, microseconds, peak in (("joining", joined[-1], join_peak), ("stitching", stitched[-1], stitch_peak)):
+        print("  %s %.1f ms, list %.1f ms, a share of %.3f; above the peak with the graphs alone %.1f MB" % (
+            name, microseconds / 1000.0, listed, microseconds / 1000.0 / listed, (peak - beside) / 1e6))
     if options.count:
         counted = known(bundles)
-        if counted != (numbers[0], numbers[1]):
+        if counted != (joined[0], joined[1]):
             measure.fail("counted are %d types and %d methods" % counted)
         print("  counted as many")
 

@@ -11,7 +11,6 @@ above the graphs.
 import argparse
 import collections
 import os
-import shutil
 import struct
 import subprocess
 import sys
@@ -20,6 +19,7 @@ import tempfile
 import java_base
 import measure
 import plain
+import programs
 import real_input
 
 CRATE = ("fcg_joining: fcg_grammar fcg_views fcg_classfile fcg_bytes fcg_class fcg_partial fcg_order fcg_analysis fcg_join "
@@ -27,24 +27,6 @@ CRATE = ("fcg_joining: fcg_grammar fcg_views fcg_classfile fcg_bytes fcg_class f
 
 # the most bytes of the class files of a bundle
 MOST = 60000000
-
-
-def build(copy):
-    """The program, built in a copy of the repository."""
-    program = os.path.join(copy, "crates", "fcg_joining", "out", "fcg_joining")
-    if os.path.exists(program):
-        return program
-    shutil.copytree(measure.TOP, copy, dirs_exist_ok=True, ignore=shutil.ignore_patterns(".git", "bench"))
-    with open(os.path.join(copy, "crates.txt"), "a", encoding="utf-8") as sink:
-        sink.write(CRATE)
-    folder = os.path.join(copy, "crates", "fcg_joining")
-    os.makedirs(os.path.join(folder, "src"))
-    shutil.copy(os.path.join(measure.TOP, "bench", "joining_program.txt"), os.path.join(folder, "src", "main.rt"))
-    done = subprocess.run(["rt", "run"], cwd=folder, stdin=subprocess.DEVNULL, stdout=subprocess.PIPE,
-                          stderr=subprocess.STDOUT, check=False)
-    if not os.path.exists(program):
-        measure.fail("the program was not built: " + done.stdout.decode("utf-8", "replace")[-2000:])
-    return program
 
 
 def heads(bundle):
@@ -153,7 +135,8 @@ def main():
     if not homes:
         measure.fail("there is no JDK")
     with tempfile.TemporaryDirectory() as folder:
-        program = build(options.copy or os.path.join(folder, "copy"))
+        copy = options.copy or os.path.join(folder, "copy")
+        program = programs.build(programs.add_crate(copy, CRATE, "joining_program.txt", "measure_stitch"))
         modules = module_bundles(homes[0], folder)
         measure_set("the modules of " + os.path.basename(homes[0]), program, modules, options)
         measure_set("these with the jars", program, modules + jar_bundles(options.jars), options)

@@ -10,7 +10,6 @@ gives are written to a folder, and nothing is run.
 
 import argparse
 import os
-import shutil
 import subprocess
 import sys
 import tempfile
@@ -18,11 +17,12 @@ import tempfile
 import call_graph
 import call_graph_cases
 import measure
+import programs
 import random_sets
 import short_form
 
-NAME = "fcg_stitching"
-CRATE = NAME + ": fcg_grammar fcg_views fcg_bytes fcg_partial fcg_order fcg_analysis fcg_join fcg_resolve fcg_select fcg_stitch fcg_cases\n"
+CRATE = ("fcg_stitching: fcg_grammar fcg_views fcg_bytes fcg_partial fcg_order fcg_analysis fcg_join fcg_resolve fcg_select "
+         "fcg_edges fcg_stitch fcg_cases\n")
 
 # the bounds of a run with --try: of the steps of the interpreter, which is too slow for many sets, and of the seconds of the
 # program that is compiled without a proof and runs after it
@@ -32,16 +32,7 @@ SECONDS = "500"
 
 def make_copy(copy):
     """The folder of the program's crate in a copy of the repository, with the program as it is now."""
-    folder = os.path.join(copy, "crates", NAME)
-    if not os.path.exists(os.path.join(copy, "crates.txt")):
-        shutil.copytree(measure.TOP, copy, dirs_exist_ok=True, ignore=shutil.ignore_patterns(".git", "bench"))
-    with open(os.path.join(copy, "crates.txt"), encoding="utf-8") as source:
-        listed = source.read()
-    if CRATE not in listed:
-        measure.write(copy, "crates.txt", (listed + CRATE).encode())
-    os.makedirs(os.path.join(folder, "src"), exist_ok=True)
-    shutil.copy(os.path.join(measure.TOP, "bench", "stitching_program.txt"), os.path.join(folder, "src", "main.rt"))
-    return folder
+    return programs.add_crate(copy, CRATE, "stitching_program.txt", "lines_of")
 
 
 def run_words(words, folder, text):
@@ -64,11 +55,7 @@ def run_unproved(copy, text):
 def build_and_run(copy, text):
     """What the proved program prints on a text."""
     folder = make_copy(copy)
-    program = os.path.join(folder, "out", NAME)
-    subprocess.run(["rt", "run"], cwd=folder, stdin=subprocess.DEVNULL, check=False)
-    if not os.path.exists(program):
-        measure.fail("the program was not built")
-    return run_words([program], folder, text)
+    return run_words([programs.build(folder)], folder, text)
 
 
 def all_sets(options):

@@ -1,4 +1,4 @@
-use crate::sets::{Ask, holds};
+use crate::sets::{Ask, LOGGING, holds};
 use fcg_stitch::Stitched;
 use std::alloc::Global;
 use std::test::Fail;
@@ -196,6 +196,10 @@ const SETS: &[(&[(&str, &str)], Graph)] = &[
             SPECIAL,
         ],
         Graph(4, 3, 0, 0, &[(2, 1)]),
+    ),
+    (
+        LOGGING,
+        Graph(6, 7, 1, 0, &[(0, 2), (0, 5), (2, 3), (3, 4), (5, 6)]),
     ),
     // types on circles count as absent
     (

@@ -1,4 +1,4 @@
-use crate::sets::{Ask, holds};
+use crate::sets::{Ask, LOGGING, holds};
 use fcg_stitch::{NodeName, Stitched};
 use fcg_views::MethodUri;
 use std::alloc::Global;
@@ -53,25 +53,7 @@ impl Ask for Named {
 // Releases, with the names of their nodes.
 const SETS: &[(&[(&str, &str)], Named)] = &[
     (
-        &[
-            (
-                "shop:app:1",
-                "class shop/Main static main([Ljava/lang/String;)V [ static log/Factory.get()Llog/Logger; \
-                 interface log/Logger.info(Ljava/lang/String;)V ]",
-            ),
-            (
-                "log:api:1",
-                "interface log/Logger abs info(Ljava/lang/String;)V \
-                 class log/Factory static get()Llog/Logger; [ static log/Binder.get()Llog/Logger; ]",
-            ),
-            (
-                "log:impl:1",
-                "class log/Binder static get()Llog/Logger; [ new impl/Simple special impl/Simple.<init>()V ] \
-                 class impl/Simple implements log/Logger pub <init>()V [ special java/lang/Object.<init>()V ] \
-                 pub info(Ljava/lang/String;)V [ static impl/Out.write(Ljava/lang/String;)V ] \
-                 class impl/Out static write(Ljava/lang/String;)V",
-            ),
-        ],
+        LOGGING,
         Named(
             &[
                 "fasten://mvn!shop:app$1/shop/Main.main([Ljava/lang/String;)V",

@@ -10,6 +10,27 @@ use std::sync::Arc;
 use std::sync::ledger::{Blank, Ledger};
 use std::test::Fail;
 
+/// A program, the interface by which it logs, and what stands behind it.
+pub(crate) const LOGGING: &[(&str, &str)] = &[
+    (
+        "shop:app:1",
+        "class shop/Main static main([Ljava/lang/String;)V [ static log/Factory.get()Llog/Logger; \
+         interface log/Logger.info(Ljava/lang/String;)V ]",
+    ),
+    (
+        "log:api:1",
+        "interface log/Logger abs info(Ljava/lang/String;)V \
+         class log/Factory static get()Llog/Logger; [ static log/Binder.get()Llog/Logger; ]",
+    ),
+    (
+        "log:impl:1",
+        "class log/Binder static get()Llog/Logger; [ new impl/Simple special impl/Simple.<init>()V ] \
+         class impl/Simple implements log/Logger pub <init>()V [ special java/lang/Object.<init>()V ] \
+         pub info(Ljava/lang/String;)V [ static impl/Out.write(Ljava/lang/String;)V ] \
+         class impl/Out static write(Ljava/lang/String;)V",
+    ),
+];
+
 // The graph of views.
 fn graph_of(alloc: Global, views: Vec<View>) -> Result<PartialGraph, Fail> {
     let views = Views::from(views);

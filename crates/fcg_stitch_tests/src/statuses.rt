@@ -1,7 +1,7 @@
 ghost use Rattle.std.specs.Prelude.{◌<◌, length};
 ghost use Rattle.fcg_join.specs.Parts.{nodes_of};
 
-use crate::sets::{Ask, holds};
+use crate::sets::{Ask, LOGGING, holds};
 use fcg_join::Cause;
 use fcg_stitch::{SiteStatus, Stitched};
 use std::alloc::Global;
@@ -55,6 +55,22 @@ const SETS: &[(&[(&str, &str)], Statuses)] = &[
             ),
         ],
         Statuses(&[&[], &[METHOD, ABSENT]]),
+    ),
+    (
+        &[("g:a:1", "class p/A static m()V [ static p/A.m()V ]")],
+        Statuses(&[&[METHOD]]),
+    ),
+    (
+        LOGGING,
+        Statuses(&[
+            &[METHOD, METHOD],
+            &[],
+            &[METHOD],
+            &[SiteStatus::NoCall, METHOD],
+            &[SiteStatus::Phantom],
+            &[METHOD],
+            &[],
+        ]),
     ),
     // a node without sites stands between others
     (

@@ -3,9 +3,9 @@
 
 The program of bench/joining_program.txt reads a bundle for each module and each jar, makes their graphs and joins or stitches
 them. It is built, with its proof, in a copy of the repository (--copy keeps the copy, and takes it where it is there). Printed
-are the known types and methods, which must be as many as this script counts by itself, and the edges; the least milliseconds of
-some runs that joining and stitching took, beside those of list over the same bundles; and the peaks of memory that they took
-above the graphs.
+are the known types and methods, which must be as many as this script counts by itself, and the edges, unless there are more
+than a call graph may have; the least milliseconds of some runs that joining and stitching took, beside those of list over the
+same bundles; and the peaks of memory that they took above the graphs.
 """
 
 import argparse
@@ -52,13 +52,13 @@ def module_bundles(home, folder):
     return [plain.pack(entries) for entries in modules.values()]
 
 
-def jar_bundles(folders):
+def jar_bundles(folders, most=MOST):
     """A bundle for each jar below the folders, of the class files that are read."""
     jars = collections.OrderedDict()
     for path, body in real_input.jar_classes(folders):
         if plain.class_fault(body) is None:
             jars.setdefault(path.split(b"/")[0], []).append((path, body))
-    return [plain.pack(entries) for entries in jars.values() if sum(len(body) for _, body in entries) <= MOST]
+    return [plain.pack(entries) for entries in jars.values() if sum(len(body) for _, body in entries) <= most]
 
 
 def write_input(folder, bundles):
@@ -106,8 +106,9 @@ def measure_set(label, program, bundles, options):
         joined, join_peak = least(program, path, "join", options.runs)
         stitched, stitch_peak = least(program, path, "stitch", options.runs)
         listed = list_seconds(folder, bundles, options.runs) * 1000.0
-    print("%s: %d bundles, %d bytes, %d types, %d methods, %d edges" % (
-        label, len(bundles), sum(map(len, bundles)), joined[0], joined[1], stitched[0]))
+    edges = "%d edges" % stitched[0] if stitched[0] else "too many edges"
+    print("%s: %d bundles, %d bytes, %d types, %d methods, %s" % (
+        label, len(bundles), sum(map(len, bundles)), joined[0], joined[1], edges))
     for name, microseconds, peak in (("joining", joined[-1], join_peak), ("stitching", stitched[-1], stitch_peak)):
         print("  %s %.1f ms, list %.1f ms, a share of %.3f; above the peak with the graphs alone %.1f MB" % (
             name, microseconds / 1000.0, listed, microseconds / 1000.0 / listed, (peak - beside) / 1e6))
@@ -124,6 +125,7 @@ def options_of():
     parser.add_argument("--runs", type=int, default=5, help="how often each is run (5)")
     parser.add_argument("--copy", help="the folder of the copy in which the program is built")
     parser.add_argument("--count", action="store_true", help="count the types and methods too, which takes minutes")
+    parser.add_argument("--most", type=int, default=MOST, help="the most bytes of the class files of a jar (%d)" % MOST)
     parser.add_argument("--jars", nargs="*", default=real_input.JAR_FOLDERS, metavar="FOLDER", help="the folders whose jars are read")
     return parser.parse_args()
 
@@ -139,7 +141,7 @@ def main():
         program = programs.build(programs.add_crate(copy, CRATE, "joining_program.txt", "measure_stitch"))
         modules = module_bundles(homes[0], folder)
         measure_set("the modules of " + os.path.basename(homes[0]), program, modules, options)
-        measure_set("these with the jars", program, modules + jar_bundles(options.jars), options)
+        measure_set("these with the jars", program, modules + jar_bundles(options.jars, options.most), options)
 
 
 if __name__ == "__main__":

@@ -16,7 +16,7 @@ TOP = os.path.dirname(os.path.dirname(os.path.abspath(__file__)))
 BEGIN, END = '<!-- pages -->', '<!-- end of pages -->'
 USE = re.compile(r'use Rattle\.([\w.]+?)(?:\.\{([^}]*)\})?(?: as (\w+))?;?\s*$', re.M)
 DEFINED = re.compile(r'^(?:infix\w* .*|(?:abbrev|unfoldable|record|data)\b.*|pub (?:record|data)\b.*)', re.M)
-HEAD = re.compile(r'^(?:abbrev pub|unfoldable pub|pub record|pub data) (\S+)')
+HEAD = re.compile(r'^ *(?:abbrev pub|unfoldable pub|pub record|pub data) (\S+)')
 NAME = re.compile(r'[A-Za-z_][\w\-]*')
 FUNCTION = re.compile(r'^(\s*)(pub )?(?:unsafe )?fn (\w+)')
 

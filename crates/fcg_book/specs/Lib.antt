@@ -1,0 +1,12 @@
+pub mod Entries
+pub mod Spelling
+pub mod Reading
+pub mod Log
+pub mod Accept
+pub mod Told
+pub mod Opening
+pub mod Office
+pub mod Opened
+pub mod Sets
+pub mod Books
+pub mod Internal

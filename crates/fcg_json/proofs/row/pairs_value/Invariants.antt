@@ -1,0 +1,7 @@
+use Rattle.std.proofs.Common.{◌≡◌, map, take}
+use Rattle.serde_json.specs.View.{view}
+use Rattle.fcg_json.specs.Reply.{pair_data}
+use Rattle.fcg_json.proofs.row.pairs_value.Given as goal
+
+abbrev pub invariant-loop-row : goal.invariant-loop-row
+invariant-loop-row l = map view l.list.items ≡ map pair_data (take l.row-index l.rows)

@@ -121,15 +121,25 @@ fn fill(alloc: Global, office: &mut Office<MemoryKeeper>, pairs: u64) -> Result<
 }
 
 // How many of the steps are answered so after them.
-fn taken_after(alloc: Global, pairs: u64, steps: &[Step]) -> Result<usize, Fail> {
+fn taken_after(
+    alloc: Global,
+    office: &mut Office<MemoryKeeper>,
+    pairs: u64,
+    steps: &[Step],
+) -> Result<usize, Fail> {
+    fill(alloc, office, pairs)?;
+    taken(alloc, office, steps)
+}
+
+// How many of them are answered so in a full log.
+fn taken_full(alloc: Global, steps: &[Step]) -> Result<usize, Fail> {
     let mut office = office_over(alloc, keeper_of(alloc, &[], &[])?)?;
-    fill(alloc, &mut office, pairs)?;
-    taken(alloc, &mut office, steps)
+    taken_after(alloc, &mut office, PAIRS, steps)
 }
 
 #[test]
 fn refuses_more_entries(rt: HostRuntime) -> Result<(), Fail> {
-    let taken = taken_after(rt.alloc(), PAIRS, FULL)?;
+    let taken = taken_full(rt.alloc(), FULL)?;
     assert!(rt; taken == FULL.len(), "step {taken}");
     Ok(())
 }

@@ -5,7 +5,9 @@
 mod ask;
 mod outcome;
 mod submit;
+mod words;
 
 pub use ask::ask_once;
 pub use outcome::Outcome;
 pub use submit::submit_once;
+pub use words::{read_number, read_query};
